@@ -1,6 +1,7 @@
 -- Lists: an element by its place after a write, two lists that agree at each element, what a filter keeps, what a count tells,
 -- and what a search finds.
-use Rattle.std.proofs.Common.{◌≡◌, ◌≢◌, ◌⊎◌, inl, inr, ℕ, zero, suc, ◌+◌, ◌<◌, ◌≤◌, Bool, true, false, cond, not, ◌&&◌, ◌||◌, List, [], ◌∷◌, ◌++◌, length, map, filter, count_by, get_or, Option, Some, None, option_map, All, refl, sym, ap, ◌∙◌, subst, arith}
+use Rattle.std.proofs.Common.{◌≡◌, ◌≢◌, ◌⊎◌, inl, inr, ℕ, zero, suc, ◌+◌, ◌<◌, ◌≤◌, Bool, true, false, cond, not, ◌&&◌, ◌||◌, List, [], ◌∷◌, ◌++◌}
+use Rattle.std.proofs.Common.{length, map, filter, count_by, get_or, Option, Some, None, option_map, All, refl, sym, ap, ◌∙◌, subst, arith}
 use Rattle.std.specs.Prelude.{Contains, slice_get, slice_set}
 use Rattle.std.specs.List.{find, list_any}
 use Rattle.std.proofs.lemmas.Bool.{cases_eq, or_parts, false_from_ne_true}

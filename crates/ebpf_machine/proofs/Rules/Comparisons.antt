@@ -1,5 +1,6 @@
 -- What is known on the edge that a branch takes speaks of the run: of a comparison of two numbers, and of a null test.
-use Rattle.std.proofs.Common.{◌≡◌, ◌≢◌, ℕ, zero, pos, ◌<◌, ◌≤◌, ◌^◌, Bool, true, false, cond, List, length, get_or, set, Option, Some, None, Ok, refl, sym, ap, ◌∙◌, subst, arith, inl, inr, ◌⊎◌, length-set, ◌+◌, ◌*◌}
+use Rattle.std.proofs.Common.{◌≡◌, ◌≢◌, ℕ, zero, pos, ◌<◌, ◌≤◌, ◌^◌, Bool, true, false, cond, List, length, get_or, set, Option, Some, None, Ok}
+use Rattle.std.proofs.Common.{refl, sym, ap, ◌∙◌, subst, arith, inl, inr, ◌⊎◌, length-set, ◌+◌, ◌*◌}
 use Rattle.std.specs.Prelude.{Contains, ◌==◌, ◌||◌, map}
 use Rattle.std.proofs.lemmas.Bool.Decides.{nat_tests}
 use Rattle.std.proofs.lemmas.Bool.{cond_both, cases_lt}
@@ -40,7 +41,7 @@ use Rattle.ebpf_verify.proofs.Bounded.{IsBoundedValue, IsFull, number_of-lt}
 use Rattle.ebpf_machine.proofs.Lists.Mapped.{Contains-mapped}
 use Rattle.ebpf_machine.proofs.Rules.Referred.{kinds_without, tested_kinds}
 use Rattle.ebpf_machine.proofs.Rules.Words.{settled_cells}
-use Rattle.ebpf_machine.proofs.Rules.Operations.{none_first, neither, number_value}
+use Rattle.ebpf_machine.proofs.Rules.Operations.{AreOperands, IsNumberOf, none_first, neither, number_value}
 
 -- ---- two numbers
 
@@ -57,34 +58,42 @@ kept_pair : (x y : ℕ) (o : Option (Range × Range)) → Keeps x y o → (p : R
 kept_pair x y None h = absurd h
 kept_pair x y (Some p) h = (p, refl, h.0, h.1)
 
-refined_numbers : (calls : List ℕ) (condition : Cond) (width : Width) (left right : Abs) (src : Source) (x y : Option (Value ℕ)) (m n : ℕ) (a b : Range)
-    → x ≡ Some (Number m) → left ≡ Num a → y ≡ Some (Number n) → right ≡ Num b → a.hi < 2 ^ 64 → b.hi < 2 ^ 64
-    → IsWithin m a × (m < 2 ^ 64) → IsWithin n b × (n < 2 ^ 64) → IsRefined calls condition width left right src x y
-refined_numbers calls condition width left right src x y m n a b e f g i below_a below_b h k =
-    let taken = is_met condition width m n in
-    let kept = kept_pair m n (refinement condition width a b taken) (refinement-keeps condition width a b taken m n below_a below_b h.0 k.0 refl) in
-    rw (e, f, g, i) (record { taken = taken; goes = refl; known = kept.0; refined = kept.1; of_left = (kept.2, h.1); of_right = (kept.3, k.1) })
+refined_numbers : (calls : List ℕ) (condition : Cond) (width : Width) {left right : Abs} (src : Source) {x y : Option (Value ℕ)}
+    → (v : IsNumberOf left x) → (w : IsNumberOf right y) → v.range.hi < 2 ^ 64 → w.range.hi < 2 ^ 64
+    → IsRefined calls condition width left right src x y
+refined_numbers calls condition width src v w below_v below_w =
+    let taken = is_met condition width v.n w.n in
+    let pair = refinement condition width v.range w.range taken in
+    let keeps = refinement-keeps condition width v.range w.range taken v.n w.n below_v below_w v.within w.within refl in
+    let kept = kept_pair v.n w.n pair keeps in
+    rw (v.holds, v.is, w.holds, w.is) (record {
+      taken = taken;
+      goes = refl;
+      known = kept.0;
+      refined = kept.1;
+      of_left = (kept.2, v.below);
+      of_right = (kept.3, w.below);
+    })
 
 -- a comparison that is not refused is of two numbers
-pub comparison_sound : (calls : List ℕ) (slot : ℕ) (condition : Cond) (width : Width) (left right : Abs) (src : Source) (x y : Option (Value ℕ))
-    → comparison_refusal left right ≡ None → IsBoundedValue slot left → IsBoundedValue slot right → IsOf calls left x
-    → IsOf calls right y → IsRefined calls condition width left right src x y
-comparison_sound calls slot condition width left right src x y fine bound_left bound_right h k =
+pub comparison_sound : {calls : List ℕ} {slot : ℕ} (condition : Cond) (width : Width) {left right : Abs} (src : Source) {x y : Option (Value ℕ)}
+    → comparison_refusal left right ≡ None → AreOperands calls slot left right x y → IsRefined calls condition width left right src x y
+comparison_sound {calls} {slot} condition width {left} {right} src {x} {y} fine are =
     let a = none_first (is_unset left || is_unset right) _ _ fine in
     let b = none_first (is_pointer left || is_may left || is_pointer right || is_may right) _ _ a.1 in
     let set = neither (is_unset left) (is_unset right) a.0 in
     let rest = neither (is_pointer left || is_may left || is_pointer right) (is_may right) b.0 in
     let more = neither (is_pointer left || is_may left) (is_pointer right) rest.0 in
     let first = neither (is_pointer left) (is_may left) more.0 in
-    let v = number_value calls left x set.0 first.1 first.0 h in
-    let w = number_value calls right y set.1 rest.1 more.1 k in
-    refined_numbers calls condition width left right src x y v.0 w.0 v.1 w.1 v.2 v.3 w.2 w.3 (subst (IsBoundedValue slot) v.3 bound_left) (subst (IsBoundedValue slot) w.3 bound_right) (v.4, v.5) (w.4, w.5)
+    let v = number_value calls left x set.0 first.1 first.0 are.left_of in
+    let w = number_value calls right y set.1 rest.1 more.1 are.right_of in
+    refined_numbers calls condition width src v w (subst (IsBoundedValue slot) v.is are.left_bound) (subst (IsBoundedValue slot) w.is are.right_bound)
 
 -- a register of which something else is known, which speaks of its value too
-with_known : (s : StateView) (frame : Frame ℕ) (objects : List ObjectView) (r : Reg) (a : Abs) → length s.registers ≡ 11
+with_known : {s : StateView} {frame : Frame ℕ} {objects : List ObjectView} (r : Reg) (a : Abs) → length s.registers ≡ 11
     → AreOf s frame objects → IsOf (calls_of objects) a (get_or frame.registers (number_of r) None)
     → AreOf (with_register s r a) frame objects
-with_known s frame objects r a whole h e = record { each = λ k lt. known_at k lt (cases_lt k (number_of r)); words = h.words; held = h.held } where
+with_known {s} {frame} {objects} r a whole h e = record { each = λ k lt. known_at k lt (cases_lt k (number_of r)); words = h.words; held = h.held } where
   other_at : (k : ℕ) → k < 11 → k ≢ number_of r → IsOf (calls_of objects) (get_or (set s.registers (number_of r) a) k Unset) (get_or frame.registers k None)
   other_at k lt other = rw (get_or-set_other s.registers (number_of r) k a Unset other) (h.each k lt)
 
@@ -100,14 +109,15 @@ with_known s frame objects r a whole h e = record { each = λ k lt. known_at k l
   ]
 
 -- what is known of both operands is written
-pub refined_state : (s : StateView) (frame : Frame ℕ) (objects : List ObjectView) (left : Reg) (right : Source) (known : Range × Range) (y : Option (Value ℕ))
+pub refined_state : {s : StateView} {frame : Frame ℕ} {objects : List ObjectView} (left : Reg) (right : Source) (known : Range × Range) (y : Option (Value ℕ))
     → length s.registers ≡ 11 → AreOf s frame objects
     → IsOf (calls_of objects) (Num known.0) (get_or frame.registers (number_of left) None)
     → ((r : Reg) → right ≡ Register r → IsOf (calls_of objects) (Num known.1) (get_or frame.registers (number_of r) None))
     → AreOf (with_operand (with_register s left (Num known.0)) right known.1) frame objects
-refined_state s frame objects left (Imm z) known y whole h of_left of_right = with_known s frame objects left (Num known.0) whole h of_left
-refined_state s frame objects left (Register r) known y whole h of_left of_right =
-    with_known (with_register s left (Num known.0)) frame objects r (Num known.1) (length-set s.registers (number_of left) (Num known.0) ∙ whole) (with_known s frame objects left (Num known.0) whole h of_left) (of_right r refl)
+refined_state left (Imm z) known y whole h of_left of_right = with_known left (Num known.0) whole h of_left
+refined_state {s} left (Register r) known y whole h of_left of_right =
+    with_known r (Num known.1) (length-set s.registers (number_of left) (Num known.0) ∙ whole)
+    (with_known left (Num known.0) whole h of_left) (of_right r refl)
 
 -- ---- null tests
 
@@ -168,41 +178,47 @@ same_number : (a b : ℕ) → (a == b) ≡ true → a ≡ b
 same_number a b e = grind (arith, nat_tests)
 
 -- what is known of a value, once the answer is known
-may_settled : (calls : List ℕ) (call r : ℕ) (null : Bool) (v : Option (Value ℕ)) → r ≡ call → IsAnswered calls call null
+may_settled : {calls : List ℕ} {call : ℕ} (r : ℕ) (null : Bool) (v : Option (Value ℕ)) → r ≡ call → IsAnswered calls call null
     → IsOf calls (May r) v → IsOf calls (answer_known call null) v
-may_settled calls call r null None same answer h = absurd h
-may_settled calls call r null (Some (Pointer Stack w)) same answer h = absurd h
-may_settled calls call r null (Some (Pointer Context w)) same answer h = absurd h
-may_settled calls call r true (Some (Number n)) same answer h = ((omega arith, omega (arith, h.0)), omega (arith, h.0))
-may_settled calls call r false (Some (Number n)) same answer h = absurd (h.1 (subst (Contains calls) (sym same) (answer.held refl)))
-may_settled calls call r true (Some (Pointer (Object at) w)) same answer h = absurd (answer.none refl (subst (Contains calls) same h.2))
-may_settled calls call r false (Some (Pointer (Object at) w)) same answer h = (h.0 ∙ same, omega (arith, ints, h.1), omega (arith, ints, h.1), answer.held refl)
+may_settled r null None same answer h = absurd h
+may_settled r null (Some (Pointer Stack w)) same answer h = absurd h
+may_settled r null (Some (Pointer Context w)) same answer h = absurd h
+may_settled r true (Some (Number n)) same answer h = ((omega arith, omega (arith, h.0)), omega (arith, h.0))
+may_settled {calls} r false (Some (Number n)) same answer h = absurd (h.1 (subst (Contains calls) (sym same) (answer.held refl)))
+may_settled {calls} r true (Some (Pointer (Object at) w)) same answer h = absurd (answer.none refl (subst (Contains calls) same h.2))
+may_settled r false (Some (Pointer (Object at) w)) same answer h = (h.0 ∙ same, omega (arith, ints, h.1), omega (arith, ints, h.1), answer.held refl)
 
-settled_sound : (calls : List ℕ) (call : ℕ) (null : Bool) (a : Abs) (v : Option (Value ℕ)) → IsAnswered calls call null
+settled_sound : {calls : List ℕ} {call : ℕ} {null : Bool} (a : Abs) (v : Option (Value ℕ)) → IsAnswered calls call null
     → IsOf calls a v → IsOf calls (settled_value call null a) v
-settled_sound calls call null (May r) v answer h = cond_both (r == call) (answer_known call null) (May r) (λ (a : Abs). IsOf calls a v) (λ e. may_settled calls call r null v (same_number r call e) answer h) (λ e. h)
-settled_sound calls call null Unset v answer h = tt
-settled_sound calls call null (Num a) v answer h = h
-settled_sound calls call null (Stk k) v answer h = h
-settled_sound calls call null (Ctx a b) v answer h = h
-settled_sound calls call null (Ob r a b) v answer h = h
+settled_sound {calls} {call} {null} (May r) v answer h =
+    cond_both (r == call) (answer_known call null) (May r) (λ (a : Abs). IsOf calls a v) (λ e. may_settled r null v (same_number r call e) answer h) (λ e. h)
+settled_sound Unset v answer h = tt
+settled_sound (Num a) v answer h = h
+settled_sound (Stk k) v answer h = h
+settled_sound (Ctx a b) v answer h = h
+settled_sound (Ob r a b) v answer h = h
 
 -- the references that are left, or tested, are those of the objects
-settled_references : (call : ℕ) (null : Bool) (s : StateView) (objects : List ObjectView) → IsAnswered (calls_of objects) call null
+settled_references : {call : ℕ} (null : Bool) (s : StateView) (objects : List ObjectView) → IsAnswered (calls_of objects) call null
     → AreReferred s objects → AreReferred (settled call null s) objects
-settled_references call true s objects answer h o there =
+settled_references {call} true s objects answer h o there =
     let among = Contains-mapped (λ (p : ObjectView). p.call) objects o there in
     kinds_without o.call call s.held (λ same. answer.none refl (subst (Contains (calls_of objects)) same among)) ∙ h o there
-settled_references call false s objects answer h o there = tested_kinds o.call call s.held ∙ h o there
+settled_references {call} false s objects answer h o there = tested_kinds o.call call s.held ∙ h o there
 
 word_settled : (call : ℕ) (null : Bool) (words : List Word) (w : ℕ) → w < length words
     → word_of (map (settled_word call null) words) w ≡ settled_word call null (word_of words w)
 word_settled call null words w lt = get_or-map (settled_word call null) words w (Bytes 0) (Bytes 0) lt
 
-pub settled_state : (slot : ℕ) (s : StateView) (frame : Frame ℕ) (objects : List ObjectView) (call : ℕ) (null : Bool)
+pub settled_state : (slot : ℕ) {s : StateView} {frame : Frame ℕ} {objects : List ObjectView} {call : ℕ} {null : Bool}
     → IsFull slot s → IsAnswered (calls_of objects) call null → AreOf s frame objects → AreOf (settled call null s) frame objects
-settled_state slot s frame objects call null full answer h = record {
-  each = λ k lt. subst (λ (a : Abs). IsOf (calls_of objects) a (get_or frame.registers k None)) (sym (get_or-map (settled_value call null) s.registers k Unset Unset (omega (arith, full.whole, lt)))) (settled_sound (calls_of objects) call null (get_or s.registers k Unset) (get_or frame.registers k None) answer (h.each k lt));
-  words = λ w lt. subst (λ (x : Word). IsOfCells (calls_of objects) x (λ j. cell_at frame.stack (8 * w + j))) (sym (word_settled call null s.words w (omega (arith, full.deep, lt)))) (settled_cells (calls_of objects) call null (word_of s.words w) (λ j. cell_at frame.stack (8 * w + j)) (λ a v. settled_sound (calls_of objects) call null a v answer) (h.words w lt));
-  held = settled_references call null s objects answer h.held;
+settled_state slot {s} {frame} {objects} {call} {null} full answer h = record {
+  each = λ k lt. subst (λ (a : Abs). IsOf (calls_of objects) a (get_or frame.registers k None))
+      (sym (get_or-map (settled_value call null) s.registers k Unset Unset (omega (arith, full.whole, lt))))
+      (settled_sound (get_or s.registers k Unset) (get_or frame.registers k None) answer (h.each k lt));
+  words = λ w lt. subst (λ (x : Word). IsOfCells (calls_of objects) x (λ j. cell_at frame.stack (8 * w + j)))
+      (sym (word_settled call null s.words w (omega (arith, full.deep, lt))))
+      (settled_cells (calls_of objects) call null (word_of s.words w) (λ j. cell_at frame.stack (8 * w + j)) (λ a v. settled_sound a v answer)
+      (h.words w lt));
+  held = settled_references null s objects answer h.held;
 }

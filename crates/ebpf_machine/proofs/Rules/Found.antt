@@ -26,13 +26,31 @@ record IsThere (objects : List ObjectView) (call : ℕ) : Type 0 where
 
 found_there : (objects : List ObjectView) (call : ℕ) (o : ObjectView) → Contains objects o → o.call ≡ call → IsThere objects call
 found_there [] call o (k, lt, e) same = absurd (omega (arith, lt))
-found_there (p ∷ objects) call o (zero, lt, e) same = record { o = p; among = Contains-head p objects; same = here; finds = ap (λ (t : Bool). cond t (Some p) (find (λ q. q.call == call) objects)) (eq-eqb p.call call here) } where
-  here : p.call ≡ call
-  here = ap (λ (q : ObjectView). q.call) e ∙ same
+found_there (p ∷ objects) call o (zero, lt, e) same =
+    record {
+      o = p;
+      among = Contains-head p objects;
+      same = here;
+      finds = ap (λ (t : Bool). cond t (Some p) (find (λ q. q.call == call) objects)) (eq-eqb p.call call here);
+    } where
+      here : p.call ≡ call
+      here = ap (λ (q : ObjectView). q.call) e ∙ same
 found_there (p ∷ objects) call o (suc k, lt, e) same = by (p.call == call) refl (found_there objects call o (k, omega (arith, lt), e) same) where
   by : (t : Bool) → (p.call == call) ≡ t → IsThere objects call → IsThere (p ∷ objects) call
-  by true here rest = record { o = p; among = Contains-head p objects; same = eqb-true p.call call here; finds = ap (λ (t : Bool). cond t (Some p) (find (λ q. q.call == call) objects)) here }
-  by false other rest = record { o = rest.o; among = Contains-tail p rest.o objects rest.among; same = rest.same; finds = ap (λ (t : Bool). cond t (Some p) (find (λ q. q.call == call) objects)) other ∙ rest.finds }
+  by true here rest =
+      record {
+        o = p;
+        among = Contains-head p objects;
+        same = eqb-true p.call call here;
+        finds = ap (λ (t : Bool). cond t (Some p) (find (λ q. q.call == call) objects)) here;
+      }
+  by false other rest =
+      record {
+        o = rest.o;
+        among = Contains-tail p rest.o objects rest.among;
+        same = rest.same;
+        finds = ap (λ (t : Bool). cond t (Some p) (find (λ q. q.call == call) objects)) other ∙ rest.finds;
+      }
 
 -- an object of a kind is as long as its row says
 image_long : (rows : List KindRow) (kind : ℕ) → length (image_at (kinds_of rows) kind) ≡ size_of rows (Some kind)

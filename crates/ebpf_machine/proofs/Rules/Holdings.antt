@@ -1,6 +1,7 @@
 -- What is known where the objects of a run become more or fewer: where a call is granted one or answered null, and where one is given
 -- back.
-use Rattle.std.proofs.Common.{◌≡◌, ◌≢◌, ℕ, ◌+◌, ◌*◌, ◌<◌, false, not, List, [], ◌∷◌, ◌++◌, get_or, filter, Option, Some, None, sym, ap, ◌∙◌, subst, inl, inr, ◌⊎◌, arith}
+use Rattle.std.proofs.Common.{◌≡◌, ◌≢◌, ℕ, ◌+◌, ◌*◌, ◌<◌, false, not, List, [], ◌∷◌, ◌++◌, get_or, filter, Option, Some, None, sym, ap, ◌∙◌, subst}
+use Rattle.std.proofs.Common.{inl, inr, ◌⊎◌, arith}
 use Rattle.std.specs.Prelude.{All, Contains, ◌==◌}
 use Rattle.std.proofs.lemmas.Bool.{cond_both, eq-eqb, ne_eqb, not-true}
 use Rattle.std.proofs.lemmas.List.{get_or-map, map-append}
@@ -72,7 +73,8 @@ cells_granted calls slot (Bytes mask) cells b h = h
 held_on : (slot kind : ℕ) (s : StateView) (objects : List ObjectView) → All (λ o. o.call < slot) objects → AreReferred s objects
     → AreReferred (holding slot kind s) objects
 held_on slot kind s objects behind h o there =
-    earlier_kinds o.call (record { call = slot; kind = kind; tested = false }) s.held (All-contains (λ (p : ObjectView). p.call < slot) objects o behind there) ∙ h o there
+    earlier_kinds o.call (record { call = slot; kind = kind; tested = false }) s.held
+    (All-contains (λ (p : ObjectView). p.call < slot) objects o behind there) ∙ h o there
 
 -- the run is answered null
 pub null_state : (slot kind : ℕ) (s : StateView) (frame : Frame ℕ) (objects : List ObjectView) → All (λ o. o.call < slot) objects
@@ -88,9 +90,12 @@ granted_state slot s frame objects new is full behind h =
     map-append (λ (o : ObjectView). o.call) objects (new ∷ []) ∙ ap (λ (n : ℕ). calls_of objects ++ n ∷ []) is in
     record {
       each = λ k lt. subst (λ (ns : List ℕ). IsOf ns (get_or s.registers k Unset) (get_or frame.registers k None)) (sym calls)
-          (of_others (calls_of objects) (calls_of objects ++ slot ∷ []) (get_or s.registers k Unset) (get_or frame.registers k None) (stays_granted (calls_of objects) slot (get_or s.registers k Unset) (All-get_or (IsBoundedValue slot) s.registers k Unset (omega (arith, full.whole, lt)) full.bounded)) (h.each k lt));
+          (of_others (calls_of objects) (calls_of objects ++ slot ∷ []) (get_or s.registers k Unset) (get_or frame.registers k None)
+          (stays_granted (calls_of objects) slot (get_or s.registers k Unset)
+          (All-get_or (IsBoundedValue slot) s.registers k Unset (omega (arith, full.whole, lt)) full.bounded)) (h.each k lt));
       words = λ w lt. subst (λ (ns : List ℕ). IsOfCells ns (word_of s.words w) (λ j. cell_at frame.stack (8 * w + j))) (sym calls)
-          (cells_granted (calls_of objects) slot (word_of s.words w) (λ j. cell_at frame.stack (8 * w + j)) (word_bounded slot s.words w full.bounded_words) (h.words w lt));
+          (cells_granted (calls_of objects) slot (word_of s.words w) (λ j. cell_at frame.stack (8 * w + j))
+          (word_bounded slot s.words w full.bounded_words) (h.words w lt));
       held = λ o there. one o (Contains-push_cases objects new o there);
     }
   where
@@ -99,7 +104,9 @@ granted_state slot s frame objects new is full behind h =
 
     one : (o : ObjectView) → Contains objects o ⊎ (new ≡ o) → kind_held o.call reference ≡ Some o.kind
     one o (inl there) = held_on slot new.kind s objects behind h.held o there
-    one o (inr same) = subst (λ (p : ObjectView). kind_held p.call reference ≡ Some p.kind) same (ap (λ (c : ℕ). kind_held c reference) is ∙ new_kind (record { call = slot; kind = new.kind; tested = false }) s.held)
+    one o (inr same) =
+        subst (λ (p : ObjectView). kind_held p.call reference ≡ Some p.kind) same
+        (ap (λ (c : ℕ). kind_held c reference) is ∙ new_kind (record { call = slot; kind = new.kind; tested = false }) s.held)
 
 -- ---- an object is given back
 
@@ -110,16 +117,20 @@ without call objects = filter (λ o. not (o.call == call)) objects
 pub calls_without : (call : ℕ) (objects : List ObjectView) → calls_of (without call objects) ≡ filter (λ c. not (c == call)) (calls_of objects)
 calls_without call objects = sym (filter-map (λ c. not (c == call)) (λ (o : ObjectView). o.call) objects)
 
-still_held : (call other : ℕ) (objects : List ObjectView) → other ≢ call → Contains (calls_of objects) other → Contains (calls_of (without call objects)) other
+still_held : (call other : ℕ) (objects : List ObjectView) → other ≢ call → Contains (calls_of objects) other
+    → Contains (calls_of (without call objects)) other
 still_held call other objects apart among =
     let it = Contains-unmapped (λ (o : ObjectView). o.call) objects other among in
     let kept = ap not (ne_eqb it.0.call call (λ same. apart (sym it.2 ∙ same))) in
-    subst (Contains (calls_of (without call objects))) it.2 (Contains-mapped (λ (o : ObjectView). o.call) (without call objects) it.0 (Contains-kept (λ (o : ObjectView). not (o.call == call)) objects it.0 it.1 kept))
+    subst (Contains (calls_of (without call objects))) it.2
+    (Contains-mapped (λ (o : ObjectView). o.call) (without call objects) it.0
+    (Contains-kept (λ (o : ObjectView). not (o.call == call)) objects it.0 it.1 kept))
 
 was_held : (call other : ℕ) (objects : List ObjectView) → Contains (calls_of (without call objects)) other → Contains (calls_of objects) other
 was_held call other objects among =
     let it = Contains-unmapped (λ (o : ObjectView). o.call) (without call objects) other among in
-    subst (Contains (calls_of objects)) it.2 (Contains-mapped (λ (o : ObjectView). o.call) objects it.0 (Contains-filter (λ (o : ObjectView). not (o.call == call)) objects it.0 it.1).0)
+    subst (Contains (calls_of objects)) it.2
+    (Contains-mapped (λ (o : ObjectView). o.call) objects it.0 (Contains-filter (λ (o : ObjectView). not (o.call == call)) objects it.0 it.1).0)
 
 apart_from : (call other : ℕ) → (other == call) ≡ false → other ≢ call
 apart_from call other e same = let yes = eq-eqb other call same in absurd (cc)
@@ -132,10 +143,12 @@ value_forgotten call objects (Stk k) v h = h
 value_forgotten call objects (Ctx a b) v h = h
 value_forgotten call objects (Ob r a b) v h =
     let others = calls_of (without call objects) in
-    cond_both (r == call) Unset (Ob r a b) (λ (x : Abs). IsOf others x v) (λ e. tt) (λ e. of_others (calls_of objects) others (Ob r a b) v (still_held call r objects (apart_from call r e)) h)
+    cond_both (r == call) Unset (Ob r a b) (λ (x : Abs). IsOf others x v) (λ e. tt)
+    (λ e. of_others (calls_of objects) others (Ob r a b) v (still_held call r objects (apart_from call r e)) h)
 value_forgotten call objects (May r) v h =
     let others = calls_of (without call objects) in
-    cond_both (r == call) Unset (May r) (λ (x : Abs). IsOf others x v) (λ e. tt) (λ e. of_others (calls_of objects) others (May r) v (still_held call r objects (apart_from call r e), was_held call r objects) h)
+    cond_both (r == call) Unset (May r) (λ (x : Abs). IsOf others x v) (λ e. tt)
+    (λ e. of_others (calls_of objects) others (May r) v (still_held call r objects (apart_from call r e), was_held call r objects) h)
 
 cells_forgotten : (call : ℕ) (objects : List ObjectView) (word : Word) (cells : ℕ → Cell ℕ)
     → IsOfCells (calls_of objects) word cells → IsOfCells (calls_of (without call objects)) (forgotten_word call word) cells
@@ -146,8 +159,12 @@ cells_forgotten call objects (Bytes mask) cells h = h
 pub forgotten_state : (slot call : ℕ) (s : StateView) (frame : Frame ℕ) (objects : List ObjectView) → IsFull slot s
     → AreOf s frame objects → AreOf (forgotten call s) frame (without call objects)
 forgotten_state slot call s frame objects full h = record {
-  each = λ k lt. subst (λ (a : Abs). IsOf (calls_of (without call objects)) a (get_or frame.registers k None)) (sym (get_or-map (forgotten_value call) s.registers k Unset Unset (omega (arith, full.whole, lt)))) (value_forgotten call objects (get_or s.registers k Unset) (get_or frame.registers k None) (h.each k lt));
-  words = λ w lt. subst (λ (x : Word). IsOfCells (calls_of (without call objects)) x (λ j. cell_at frame.stack (8 * w + j))) (sym (get_or-map (forgotten_word call) s.words w (Bytes 0) (Bytes 0) (omega (arith, full.deep, lt)))) (cells_forgotten call objects (word_of s.words w) (λ j. cell_at frame.stack (8 * w + j)) (h.words w lt));
+  each = λ k lt. subst (λ (a : Abs). IsOf (calls_of (without call objects)) a (get_or frame.registers k None))
+      (sym (get_or-map (forgotten_value call) s.registers k Unset Unset (omega (arith, full.whole, lt))))
+      (value_forgotten call objects (get_or s.registers k Unset) (get_or frame.registers k None) (h.each k lt));
+  words = λ w lt. subst (λ (x : Word). IsOfCells (calls_of (without call objects)) x (λ j. cell_at frame.stack (8 * w + j)))
+      (sym (get_or-map (forgotten_word call) s.words w (Bytes 0) (Bytes 0) (omega (arith, full.deep, lt))))
+      (cells_forgotten call objects (word_of s.words w) (λ j. cell_at frame.stack (8 * w + j)) (h.words w lt));
   held = λ o there.
       let parts = Contains-filter (λ (p : ObjectView). not (p.call == call)) objects o there in
       kinds_without o.call call s.held (apart_from call o.call (not-true (o.call == call) parts.1)) ∙ h.held o parts.0;

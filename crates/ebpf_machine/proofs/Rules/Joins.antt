@@ -41,16 +41,24 @@ joined_registers s t = record { registers = joined_list joined_value s.registers
 left_side : (slot : ℕ) (s t : StateView) (frame : Frame ℕ) (objects : List ObjectView) → IsFull slot s → IsFull slot t
     → AreOf s frame objects → AreOf (joined_registers s t) frame objects
 left_side slot s t frame objects v u h = record {
-  each = λ k lt. subst (λ (a : Abs). IsOf (calls_of objects) a (get_or frame.registers k None)) (sym (joined_list-index joined_value Unset s.registers t.registers k (v.whole ∙ sym u.whole) (omega (arith, v.whole)))) (IsOf-joined_left (calls_of objects) (get_or s.registers k Unset) (get_or t.registers k Unset) (get_or frame.registers k None) (h.each k lt));
-  words = λ w lt. subst (λ (x : Word). IsOfCells (calls_of objects) x (λ j. cell_at frame.stack (8 * w + j))) (sym (joined_list-index joined_word (Bytes 0) s.words t.words w (v.deep ∙ sym u.deep) (omega (arith, v.deep)))) (joined_cells_left (calls_of objects) (word_of s.words w) (word_of t.words w) (λ j. cell_at frame.stack (8 * w + j)) (h.words w lt));
+  each = λ k lt. subst (λ (a : Abs). IsOf (calls_of objects) a (get_or frame.registers k None))
+      (sym (joined_list-index joined_value Unset s.registers t.registers k (v.whole ∙ sym u.whole) (omega (arith, v.whole))))
+      (IsOf-joined_left (calls_of objects) (get_or s.registers k Unset) (get_or t.registers k Unset) (get_or frame.registers k None) (h.each k lt));
+  words = λ w lt. subst (λ (x : Word). IsOfCells (calls_of objects) x (λ j. cell_at frame.stack (8 * w + j)))
+      (sym (joined_list-index joined_word (Bytes 0) s.words t.words w (v.deep ∙ sym u.deep) (omega (arith, v.deep))))
+      (joined_cells_left (calls_of objects) (word_of s.words w) (word_of t.words w) (λ j. cell_at frame.stack (8 * w + j)) (h.words w lt));
   held = h.held;
 }
 
 right_side : (slot : ℕ) (s t : StateView) (frame : Frame ℕ) (objects : List ObjectView) → IsFull slot s → IsFull slot t
     → is_same_held s.held t.held ≡ true → AreOf t frame objects → AreOf (joined_registers s t) frame objects
 right_side slot s t frame objects v u same h = record {
-  each = λ k lt. subst (λ (a : Abs). IsOf (calls_of objects) a (get_or frame.registers k None)) (sym (joined_list-index joined_value Unset s.registers t.registers k (v.whole ∙ sym u.whole) (omega (arith, v.whole)))) (IsOf-joined_right (calls_of objects) (get_or s.registers k Unset) (get_or t.registers k Unset) (get_or frame.registers k None) (h.each k lt));
-  words = λ w lt. subst (λ (x : Word). IsOfCells (calls_of objects) x (λ j. cell_at frame.stack (8 * w + j))) (sym (joined_list-index joined_word (Bytes 0) s.words t.words w (v.deep ∙ sym u.deep) (omega (arith, v.deep)))) (joined_cells_right (calls_of objects) (word_of s.words w) (word_of t.words w) (λ j. cell_at frame.stack (8 * w + j)) (h.words w lt));
+  each = λ k lt. subst (λ (a : Abs). IsOf (calls_of objects) a (get_or frame.registers k None))
+      (sym (joined_list-index joined_value Unset s.registers t.registers k (v.whole ∙ sym u.whole) (omega (arith, v.whole))))
+      (IsOf-joined_right (calls_of objects) (get_or s.registers k Unset) (get_or t.registers k Unset) (get_or frame.registers k None) (h.each k lt));
+  words = λ w lt. subst (λ (x : Word). IsOfCells (calls_of objects) x (λ j. cell_at frame.stack (8 * w + j)))
+      (sym (joined_list-index joined_word (Bytes 0) s.words t.words w (v.deep ∙ sym u.deep) (omega (arith, v.deep))))
+      (joined_cells_right (calls_of objects) (word_of s.words w) (word_of t.words w) (λ j. cell_at frame.stack (8 * w + j)) (h.words w lt));
   held = same_referred s t objects same h.held;
 }
 
@@ -63,7 +71,13 @@ by_test true s t frame objects h = h refl
 by_test false s t frame objects h = tt
 
 whole_by_test : (slot : ℕ) (same : Bool) (s t : StateView) → IsFull slot s → IsFull slot t → IsWhole slot (joined_by same s t)
-whole_by_test slot true s t v w = record { whole = joined_list-length joined_value s.registers t.registers (v.whole ∙ sym w.whole) ∙ v.whole; bounded = joined_registers_bounded slot s.registers t.registers v.bounded w.bounded; deep = joined_list-length joined_word s.words t.words (v.deep ∙ sym w.deep) ∙ v.deep; bounded_words = joined_words_bounded slot s.words t.words v.bounded_words w.bounded_words }
+whole_by_test slot true s t v w =
+    record {
+      whole = joined_list-length joined_value s.registers t.registers (v.whole ∙ sym w.whole) ∙ v.whole;
+      bounded = joined_registers_bounded slot s.registers t.registers v.bounded w.bounded;
+      deep = joined_list-length joined_word s.words t.words (v.deep ∙ sym w.deep) ∙ v.deep;
+      bounded_words = joined_words_bounded slot s.words t.words v.bounded_words w.bounded_words;
+    }
 whole_by_test slot false s t v w = tt
 
 pub IsWhole-with_state : (slot : ℕ) (a : EntryState) (t : StateView) → IsWhole slot a → IsFull slot t → IsWhole slot (with_state a t)

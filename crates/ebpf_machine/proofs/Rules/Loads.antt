@@ -1,6 +1,8 @@
 -- What is known of what is loaded speaks of it: of a load from the stack that is not refused, and of one from the context or an
 -- object.
-use Rattle.std.proofs.Common.{◌≡◌, ℕ, zero, suc, ◌+◌, ◌-◌, ◌*◌, ◌/◌, ◌%◌, ◌^◌, ◌<◌, ◌≤◌, ℤ, pos, ◌+ℤ◌, ◌≤ℤ◌, Bool, true, false, cond, not, ◌&&◌, ◌||◌, List, [], ◌∷◌, length, get_or, drop, All, Option, Some, None, Result, Ok, inl, inr, ◌⊎◌, refl, sym, ap, ◌∙◌, subst, arith}
+use Rattle.std.proofs.Common.{◌≡◌, ℕ, zero, suc, ◌+◌, ◌-◌, ◌*◌, ◌/◌, ◌%◌, ◌^◌, ◌<◌, ◌≤◌, ℤ, pos, ◌+ℤ◌, ◌≤ℤ◌, Bool, true, false, cond, not, ◌&&◌}
+use Rattle.std.proofs.Common.{◌||◌, List, [], ◌∷◌, length, get_or, drop, All, Option, Some, None, Result, Ok, inl, inr, ◌⊎◌, refl, sym, ap, ◌∙◌}
+use Rattle.std.proofs.Common.{subst, arith}
 use Rattle.std.specs.Prelude.{◌==◌, bit_and, int_le, nat_lt, nat_abs, slice_index}
 use Rattle.std.specs.Ordering.{int_eq}
 use Rattle.std.specs.Int.{bit_at, byte_at, bytes_low_first}
@@ -37,7 +39,8 @@ use Rattle.ebpf_machine.specs.declared.value.Base.TheVariants.{Stack, Context, O
 use Rattle.ebpf_machine.specs.declared.value.Cell.{Cell}
 use Rattle.ebpf_machine.specs.declared.value.Cell.TheVariants as cell
 use Rattle.ebpf_machine.specs.Values.{Trap}
-use Rattle.ebpf_machine.specs.Cells.{cell_at, cell_of, is_same_pointer, is_part, are_parts, pointer_from, with_byte, number_from, extended, loaded_number, loaded_word, loaded_at, place_in, read_at}
+use Rattle.ebpf_machine.specs.Cells.{cell_at, cell_of, is_same_pointer, is_part, are_parts, pointer_from, with_byte, number_from, extended}
+use Rattle.ebpf_machine.specs.Cells.{loaded_number, loaded_word, loaded_at, place_in, read_at}
 use Rattle.ebpf_machine.specs.Concretization.{IsOf, IsByte, IsOfCells}
 use Rattle.ebpf_machine.specs.Sound.{FitsCell}
 use Rattle.ebpf_machine.proofs.Rules.Operations.{IsFitting}
@@ -121,7 +124,8 @@ read_bytes calls words stack place bytes h few fits e i low high = by (cases_lt 
 
   by : (i / 8 < place / 8 + 1) ⊎ (place / 8 + 1 ≤ i / 8) → IsByte (cell_at stack i)
   by which =
-      let parts = no_fault (unset_at place bytes words (place / 8)) (unset_at place bytes words (place / 8 + 1)) (split_at place bytes words (place / 8)) (split_at place bytes words (place / 8 + 1)) e in
+      let parts = no_fault (unset_at place bytes words (place / 8)) (unset_at place bytes words (place / 8 + 1)) (split_at place bytes words (place / 8))
+      (split_at place bytes words (place / 8 + 1)) e in
       elim which [
         | inl below ↦ in_word (place / 8) (omega arith) parts.0 parts.2
         | inr above ↦ in_word (place / 8 + 1) (omega arith) parts.1 parts.3
@@ -169,13 +173,16 @@ number_again : (stack : List (Cell ℕ)) (place n : ℕ) → n < 2 ^ 64
     → ((j : ℕ) → j < 8 → cell_at stack (place + j) ≡ cell.Byte (byte_at j n)) → number_from stack place 8 ≡ Some n
 number_again stack place n fits h =
     let start : place ≡ place + 0 = omega arith in
-    let read = number_at stack (bytes_low_first 0 8 n) place 0 8 (λ j lt. h j (omega (arith, lt)) ∙ ap cell.Byte (ap (λ (p : ℕ). byte_at p n) (omega arith) ∙ sym (low_byte 8 0 j n (omega (arith, lt))))) in
+    let read = number_at stack (bytes_low_first 0 8 n) place 0 8
+    (λ j lt. h j (omega (arith, lt)) ∙ ap cell.Byte (ap (λ (p : ℕ). byte_at p n) (omega arith) ∙ sym (low_byte 8 0 j n (omega (arith, lt))))) in
     ap (λ (p : ℕ). number_from stack p 8) start ∙ read ∙ ap Some (little_number-reads_back 8 n [] fits)
 
 -- all eight bytes of it are its low bits
 number_same : (signed : Bool) (n : ℕ) → n < 2 ^ 64 → extended 8 signed n ≡ n
 number_same false n fits = omega (arith, fits)
-number_same true n fits = cond_both (nat_lt (n % 2 ^ 64 * 2) (2 ^ 64)) (n % 2 ^ 64) (n % 2 ^ 64 + (2 ^ 64 - 2 ^ 64)) (λ (m : ℕ). m ≡ n) (λ e. omega (arith, fits)) (λ e. omega (arith, fits))
+number_same true n fits =
+    cond_both (nat_lt (n % 2 ^ 64 * 2) (2 ^ 64)) (n % 2 ^ 64) (n % 2 ^ 64 + (2 ^ 64 - 2 ^ 64)) (λ (m : ℕ). m ≡ n) (λ e. omega (arith, fits))
+    (λ e. omega (arith, fits))
 
 no_pointer : (c : Cell ℕ) (stack : List (Cell ℕ)) (place : ℕ) → IsByte c → pointer_from ◌==◌ c stack place ≡ None
 no_pointer cell.Unset stack place h = refl
@@ -250,7 +257,8 @@ spill_loaded calls a (Pointer base k) stack place signed fit set of h =
       fits = subst FitsCell (ap (cell_at stack) start ∙ h 0 (omega arith)) (fits_at stack place fit);
       of = of;
       is =
-          ap (λ (p : Option (Value ℕ)). loaded_word p (number_from stack place 8) 8 signed) (pointer_again (Pointer base k) stack place (pointer_same (Pointer base k) (λ n e. absurd (cc))) h);
+          ap (λ (p : Option (Value ℕ)). loaded_word p (number_from stack place 8) 8 signed)
+          (pointer_again (Pointer base k) stack place (pointer_same (Pointer base k) (λ n e. absurd (cc))) h);
     }
 
 word_loaded : (calls : List ℕ) (known : Abs) (word : Word) (fault : Option StackFault) (stack : List (Cell ℕ)) (place : ℕ) (signed : Bool)
@@ -267,7 +275,8 @@ word_loaded calls known (Bytes mask) None stack place signed fit h bytes e =
       v = number.v;
       fits = number.fits;
       of = number.of;
-      is = ap (λ (p : Option (Value ℕ)). loaded_word p (number_from stack place 8) 8 signed) (no_pointer (cell_at stack place) stack place (bytes refl place (omega arith) (omega arith))) ∙ number.is;
+      is = ap (λ (p : Option (Value ℕ)). loaded_word p (number_from stack place 8) 8 signed)
+          (no_pointer (cell_at stack place) stack place (bytes refl place (omega arith) (omega arith))) ∙ number.is;
     }
 
 -- ---- the stack
@@ -283,7 +292,8 @@ part_loaded calls words stack size signed place known h fits e =
 -- eight bytes, which are a word or are not
 eight_loaded : (calls : List ℕ) (words : List Word) (stack : List (Cell ℕ)) (signed : Bool) (place : ℕ) (known : Abs) (t : Bool)
     → (place % 8 == 0) ≡ t → AreOfCells calls words stack → All FitsCell stack → place + 8 ≤ 512
-    → cond t (state.loaded_word (word_of words (place / 8)) (read_fault place 8 words) 8 signed) (state.loaded_number (read_fault place 8 words) 8 signed) ≡ Ok known
+    → cond t (state.loaded_word (word_of words (place / 8)) (read_fault place 8 words) 8 signed)
+    (state.loaded_number (read_fault place 8 words) 8 signed) ≡ Ok known
     → IsFitting calls known (cond t (word_at stack place signed) (loaded_number (number_from stack place 8) 8 signed))
 eight_loaded calls words stack signed place known false whole h fit fits e = part_loaded calls words stack D signed place known h fits e
 eight_loaded calls words stack signed place known true whole h fit fits e =
@@ -343,13 +353,15 @@ place_between len bytes low high at offset below above e =
 -- a load in bounds, from bytes that are as many as declared
 pub read_sound : (calls : List ℕ) (outside : Trap) (source : List ℕ) (declared : ℕ) (size : Size) (signed : Bool) (low high at offset : ℤ)
     → length source ≡ declared → low ≤ℤ at → at ≤ℤ high → is_in_bounds declared low high offset (bytes_in size) ≡ true
-    → IsFitting calls (Num (loaded_range (bytes_in size) signed)) (read_at outside (place_in (length source) (at +ℤ offset) (bytes_in size)) (bytes_in size) signed source)
+    → IsFitting calls (Num (loaded_range (bytes_in size) signed))
+    (read_at outside (place_in (length source) (at +ℤ offset) (bytes_in size)) (bytes_in size) signed source)
 read_sound calls outside source declared size signed low high at offset long below above e =
     let inside = subst (λ (len : ℕ). is_in_bounds len low high offset (bytes_in size) ≡ true) (sym long) e in
     let number = little_number (bytes_in size) (drop (nat_abs (at +ℤ offset)) source) in
     record {
       v = Number (extended (bytes_in size) signed number);
-      is = ap (λ (o : Option ℕ). read_at {N = ℕ} outside o (bytes_in size) signed source) (place_between (length source) (bytes_in size) low high at offset below above inside);
+      is = ap (λ (o : Option ℕ). read_at {N = ℕ} outside o (bytes_in size) signed source)
+          (place_between (length source) (bytes_in size) low high at offset below above inside);
       fits = tt;
       of = extended_within size signed number;
     }

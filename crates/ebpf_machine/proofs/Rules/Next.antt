@@ -20,7 +20,7 @@ use Rattle.ebpf_machine.specs.View.{ObjectView, RunView, environment_of_view, ef
 use Rattle.ebpf_machine.specs.Concretization.{AreOf, Arrives, calls_of}
 use Rattle.ebpf_machine.specs.Sound.{FitsFrame, AreSized, IsGoing, IsWellStated, IsSound}
 use Rattle.ebpf_verify.proofs.Bounded.{IsFull}
-use Rattle.ebpf_machine.proofs.Rules.Entries.{AreDefined}
+use Rattle.ebpf_machine.proofs.Rules.Entries.{AreDefined, IsEntered}
 use Rattle.ebpf_machine.proofs.Rules.Registers.{IsFrame}
 
 -- what is asked for has room
@@ -68,6 +68,9 @@ going_of v h going = subst (λ (s : Status). IsWellStated s v) going h.stated
 pub defined_in : (v : RunView) → IsSound v → AreDefined v.subject.program
 defined_in v h k i at = defined_at v.subject.program k i h.accepted.formed.defined at
 
+pub entered_here : {v : RunView} {i : Insn} {s : StateView} → IsHere v i s → IsEntered v.subject.program v.pc i s
+entered_here {v} here = record { defined = defined_in v here.sound; at = here.at; entered = here.entered; full = here.full }
+
 pub frame_of : (v : RunView) → IsSound v → IsFrame v.frame
 frame_of v h = record { whole = h.registers; deep = h.stack; pointer = h.pointer; fit = h.fit }
 
@@ -84,7 +87,8 @@ Leads i from to = (fall_of i from ≡ Some to) ⊎ (jump_of i from ≡ Some to)
 pub leads_forward : (v : RunView) (i : Insn) (to : ℕ) → IsSound v → insn_at v.subject.program v.pc ≡ Some i → Leads i v.pc to
     → LeadsForward v.subject.program v.pc (Some to)
 leads_forward v i to h at edge = along edge where
-  leads : LeadsForward v.subject.program v.pc (edges_of (insn_at v.subject.program v.pc) v.pc).fall × LeadsForward v.subject.program v.pc (edges_of (insn_at v.subject.program v.pc) v.pc).jump
+  leads : LeadsForward v.subject.program v.pc (edges_of (insn_at v.subject.program v.pc) v.pc).fall
+      × LeadsForward v.subject.program v.pc (edges_of (insn_at v.subject.program v.pc) v.pc).jump
   leads = h.accepted.forward v.pc (insn_at_within v.subject.program v.pc i at)
 
   along : Leads i v.pc to → LeadsForward v.subject.program v.pc (Some to)
@@ -104,7 +108,13 @@ pub stays_there : (v : RunView) (i : Insn) (s : StateView) (to : ℕ) (after : F
     → Arrives (entry_of v.subject.program to) after v.objects → IsThere v to after v.objects
 stays_there v i s to after here forward frame state =
     let was = going_of v here.sound here.going in
-    record { frame = frame; state = state; behind = λ k d lt. let before = was.behind k d lt in omega (arith, before, forward); ascending = was.ascending; declared = was.declared }
+    record {
+      frame = frame;
+      state = state;
+      behind = λ k d lt. let before = was.behind k d lt in omega (arith, before, forward);
+      ascending = was.ascending;
+      declared = was.declared;
+    }
 
 -- it is sound there
 pub there_sound : (v : RunView) (i : Insn) (s : StateView) (to : ℕ) (after : Frame ℕ) (objects : List ObjectView) (replies : List Reply) (taken : List ℕ)
@@ -138,7 +148,19 @@ pub goes_on : (v : RunView) (i : Insn) (s : StateView) (act : Act ℕ) (to : ℕ
     → effect i v.pc (environment_of_view v) v.frame ≡ Goes act to after → Leads i v.pc to → FitsFrame after → HasRoom v act
     → ((reply : CallResult) → IsSound (acted act reply to after v)) → IsNext v
 goes_on v i s act to after here does edge fit room sound =
-    inl (act, to, after, record { does = effect_here v i s here ∙ does; forward = (leads_forward v i to here.sound here.at edge).0; edge = (i, here.at, edge); fit = fit; room = room; sound = sound })
+    inl (
+      act,
+      to,
+      after,
+      record {
+        does = effect_here v i s here ∙ does;
+        forward = (leads_forward v i to here.sound here.at edge).0;
+        edge = (i, here.at, edge);
+        fit = fit;
+        room = room;
+        sound = sound;
+      },
+    )
 
 -- one that asks for nothing
 pub goes_quietly : (v : RunView) (i : Insn) (s : StateView) (to : ℕ) (after : Frame ℕ) → IsHere v i s
@@ -146,4 +168,5 @@ pub goes_quietly : (v : RunView) (i : Insn) (s : StateView) (to : ℕ) (after : 
     → Arrives (entry_of v.subject.program to) after v.objects → IsNext v
 goes_quietly v i s to after here does edge frame state =
     let forward = (leads_forward v i to here.sound here.at edge).0 in
-    goes_on v i s Nothing to after here does edge frame.fit tt (λ reply. there_sound v i s to after v.objects v.replies v.taken here edge (stays_there v i s to after here forward frame state))
+    goes_on v i s Nothing to after here does edge frame.fit tt
+    (λ reply. there_sound v i s to after v.objects v.replies v.taken here edge (stays_there v i s to after here forward frame state))

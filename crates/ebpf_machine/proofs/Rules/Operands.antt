@@ -35,7 +35,7 @@ use Rattle.ebpf_verify.proofs.Bounded.{number_of-lt}
 use Rattle.ebpf_machine.proofs.Rules.Entries.{fall_arrives}
 use Rattle.ebpf_machine.proofs.Rules.Operations.{IsFitting}
 use Rattle.ebpf_machine.proofs.Rules.Registers.{IsFrame, IsFrame-with, AreOf-with}
-use Rattle.ebpf_machine.proofs.Rules.Next.{IsHere, IsNext, defined_in, frame_of, goes_quietly}
+use Rattle.ebpf_machine.proofs.Rules.Next.{IsHere, IsNext, entered_here, frame_of, goes_quietly}
 
 constant_holds : (calls : List ℕ) (width : Width) (z : ℤ) → FitsSigned w32 z
     → IsOf calls (Num (constant (immediate width z))) (Some (Number (immediate width z)))
@@ -77,6 +77,6 @@ result_next v i s dst known result here w low r =
     let to = v.pc + slots_in i in
     let after = with_value v.frame dst r.v in
     let writes : effect i v.pc (environment_of_view v) v.frame ≡ Goes Nothing to after = w.does ∙ rw (r.is, low) refl in
-    let there = AreOf-with s v.frame v.objects dst known (Some r.v) here.full.whole frame.whole here.state r.of in
-    goes_quietly v i s to after here writes (inl w.falls) (IsFrame-with v.frame dst (Some r.v) low r.fits frame)
-    (fall_arrives v.subject.program v.pc to i s (with_register s dst known) after v.objects (defined_in v here.sound) here.at here.entered here.full w.sends w.falls (omega (arith, some)) there)
+    let there = AreOf-with dst known (Some r.v) here.full.whole frame.whole here.state r.of in
+    goes_quietly v i s to after here writes (inl w.falls) (IsFrame-with dst (Some r.v) low r.fits frame)
+    (fall_arrives to (entered_here here) w.sends w.falls (omega (arith, some)) there)

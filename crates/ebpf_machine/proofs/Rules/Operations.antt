@@ -1,5 +1,6 @@
 -- What an accepted operation computes is what its rule says.
-use Rattle.std.proofs.Common.{◌≡◌, ℕ, ◌<◌, ◌^◌, ℤ, ◌+ℤ◌, ◌≤ℤ◌, Bool, true, false, cond, eqb, not, List, Option, Some, None, Result, Ok, Err, refl, sym, ap, ◌∙◌, subst, arith}
+use Rattle.std.proofs.Common.{◌≡◌, ℕ, ◌<◌, ◌^◌, ℤ, ◌+ℤ◌, ◌≤ℤ◌, Bool, true, false, cond, eqb, not, List, Option, Some, None, Result, Ok, Err, refl}
+use Rattle.std.proofs.Common.{sym, ap, ◌∙◌, subst, arith}
 use Rattle.std.specs.Prelude.{nat_lt, ◌||◌, unwrap_or}
 use Rattle.std.proofs.lemmas.Bool.Decides.{nat_tests}
 use Rattle.std.proofs.lemmas.Int.{ints}
@@ -16,6 +17,7 @@ use Rattle.ebpf_machine.specs.declared.value.Base.TheVariants.{Stack, Context, O
 use Rattle.ebpf_machine.specs.Values.{Trap, PointerMisuse}
 use Rattle.ebpf_machine.specs.Concretization.{IsOf}
 use Rattle.ebpf_machine.specs.Sound.{FitsValue}
+use Rattle.ebpf_verify.proofs.Bounded.{IsBoundedValue}
 use Rattle.ebpf_verify.proofs.Pointers.{near_end, near_fits, between_near}
 
 -- the first test of a list fails where no code is given
@@ -39,16 +41,32 @@ set_value calls (Ctx a b) None e h = absurd h
 set_value calls (Ob c a b) None e h = absurd h
 set_value calls (May c) None e h = absurd h
 
--- a value that is a number
+-- a value that is known to be a number
+pub record IsNumberOf (known : Abs) (x : Option (Value ℕ)) : Type 0 where
+  pub n : ℕ
+  pub range : Range
+  pub holds : x ≡ Some (Number n)
+  pub is : known ≡ Num range
+  pub within : IsWithin n range
+  pub below : n < 2 ^ 64
+
+-- what is known of the operands of an instruction at a slot
+pub record AreOperands (calls : List ℕ) (slot : ℕ) (left right : Abs) (x y : Option (Value ℕ)) : Type 0 where
+  pub left_bound : IsBoundedValue slot left
+  pub right_bound : IsBoundedValue slot right
+  pub left_of : IsOf calls left x
+  pub right_of : IsOf calls right y
+
 pub number_value : (calls : List ℕ) (a : Abs) (x : Option (Value ℕ)) → is_unset a ≡ false → is_may a ≡ false → is_pointer a ≡ false
-    → IsOf calls a x → (n : ℕ) × (r : Range) × (x ≡ Some (Number n)) × (a ≡ Num r) × IsWithin n r × (n < 2 ^ 64)
+    → IsOf calls a x → IsNumberOf a x
 number_value calls Unset x e m p h = absurd (cc)
 number_value calls (May c) x e m p h = absurd (cc)
 number_value calls (Stk k) x e m p h = absurd (cc)
 number_value calls (Ctx a b) x e m p h = absurd (cc)
 number_value calls (Ob c a b) x e m p h = absurd (cc)
 number_value calls (Num r) None e m p h = absurd h
-number_value calls (Num r) (Some (Number n)) e m p h = (n, r, refl, refl, h.0, h.1)
+number_value calls (Num r) (Some (Number n)) e m p h =
+    record { n = n; range = r; holds = refl; is = refl; within = h.0; below = h.1 }
 number_value calls (Num r) (Some (Pointer base k)) e m p h = absurd h
 
 -- a result that fits, with what is known of it
@@ -89,19 +107,34 @@ moved_fits calls (Stk k) q (Pointer Stack j) z ends is_p h low high exact m =
     let one = one_end (moved_end k ends.0) Stk q m in
     let near = near_end k ends.0 one.0 one.1 in
     let lands : j +ℤ z ≡ one.0 = ap (λ (i : ℤ). i +ℤ z) h ∙ ap (λ (i : ℤ). k +ℤ i) (exact k refl) ∙ sym near.0 in
-    record { v = Pointer Stack (j +ℤ z); is = refl; fits = near_fits (j +ℤ z) (rw lands near.1); of = subst (λ (u : Abs). IsOf calls u (Some (Pointer Stack (j +ℤ z)))) one.2 lands }
+    record {
+      v = Pointer Stack (j +ℤ z);
+      is = refl;
+      fits = near_fits (j +ℤ z) (rw lands near.1);
+      of = subst (λ (u : Abs). IsOf calls u (Some (Pointer Stack (j +ℤ z)))) one.2 lands;
+    }
 moved_fits calls (Ctx a d) q (Pointer Context j) z ends is_p h low high exact m =
     let two = two_ends (moved_end a ends.0) (moved_end d ends.1) Ctx q m in
     let near = near_end a ends.0 two.0 two.2 in
     let far = near_end d ends.1 two.1 two.3 in
     let inside = moved_between a d j ends.0 ends.1 z two.0 two.1 near.0 far.0 h.0 h.1 low high in
-    record { v = Pointer Context (j +ℤ z); is = refl; fits = near_fits (j +ℤ z) (between_near two.0 two.1 (j +ℤ z) near.1 far.1 inside.0 inside.1); of = subst (λ (u : Abs). IsOf calls u (Some (Pointer Context (j +ℤ z)))) two.4 inside }
+    record {
+      v = Pointer Context (j +ℤ z);
+      is = refl;
+      fits = near_fits (j +ℤ z) (between_near two.0 two.1 (j +ℤ z) near.1 far.1 inside.0 inside.1);
+      of = subst (λ (u : Abs). IsOf calls u (Some (Pointer Context (j +ℤ z)))) two.4 inside;
+    }
 moved_fits calls (Ob c a d) q (Pointer (Object at) j) z ends is_p h low high exact m =
     let two = two_ends (moved_end a ends.0) (moved_end d ends.1) (Ob c) q m in
     let near = near_end a ends.0 two.0 two.2 in
     let far = near_end d ends.1 two.1 two.3 in
     let inside = moved_between a d j ends.0 ends.1 z two.0 two.1 near.0 far.0 h.1 h.2 low high in
-    record { v = Pointer (Object at) (j +ℤ z); is = refl; fits = near_fits (j +ℤ z) (between_near two.0 two.1 (j +ℤ z) near.1 far.1 inside.0 inside.1); of = subst (λ (u : Abs). IsOf calls u (Some (Pointer (Object at) (j +ℤ z)))) two.4 (h.0, inside.0, inside.1, h.3) }
+    record {
+      v = Pointer (Object at) (j +ℤ z);
+      is = refl;
+      fits = near_fits (j +ℤ z) (between_near two.0 two.1 (j +ℤ z) near.1 far.1 inside.0 inside.1);
+      of = subst (λ (u : Abs). IsOf calls u (Some (Pointer (Object at) (j +ℤ z)))) two.4 (h.0, inside.0, inside.1, h.3);
+    }
 moved_fits calls (Stk k) q _ z ends is_p h low high exact m = absurd h
 moved_fits calls (Ctx a d) q _ z ends is_p h low high exact m = absurd h
 moved_fits calls (Ob c a d) q _ z ends is_p h low high exact m = absurd h

@@ -1,5 +1,6 @@
 -- The kinds of the references that a state holds, by the calls that asked for them.
-use Rattle.std.proofs.Common.{◌≡◌, ◌≢◌, ℕ, ◌<◌, ◌≤◌, Bool, true, false, cond, eqb, not, List, [], ◌∷◌, ◌++◌, length, Option, Some, None, refl, sym, ap, ◌∙◌, arith}
+use Rattle.std.proofs.Common.{◌≡◌, ◌≢◌, ℕ, ◌<◌, ◌≤◌, Bool, true, false, cond, eqb, not, List, [], ◌∷◌, ◌++◌, length, Option, Some, None, refl, sym}
+use Rattle.std.proofs.Common.{ap, ◌∙◌, arith}
 use Rattle.std.specs.Prelude.{Contains, ◌==◌, map, filter, nat_lt, option_map}
 use Rattle.std.specs.List.{find}
 use Rattle.std.specs.Option.{option_or}
@@ -64,7 +65,8 @@ tested_kinds other call (h ∷ held) =
   where
     same : (r : Held) → ((tested_reference call r).call ≡ r.call) × ((tested_reference call r).kind ≡ r.kind)
     same r =
-        cond_both (r.call == call) (record r { tested = true }) r (λ (q : Held). (q.call ≡ r.call) × (q.kind ≡ r.kind)) (λ e. (refl, refl)) (λ e. (refl, refl))
+        cond_both (r.call == call) (record r { tested = true }) r (λ (q : Held). (q.call ≡ r.call) × (q.kind ≡ r.kind)) (λ e. (refl, refl))
+        (λ e. (refl, refl))
 
 -- ---- filters
 
@@ -101,7 +103,9 @@ kind_appended call [] new last = kind_first call new last
 kind_appended call (h ∷ first) new last = by (h.call == call) (kind_appended call first new last) where
   by : (t : Bool)
       → kind_among call (first ++ (new ∷ last)) ≡ option_or (kind_among call first) (kind_or (new.call == call) new (kind_among call last))
-      → option_map (λ (x : Held). x.kind) (cond t (Some h) (find (λ x. x.call == call) (first ++ (new ∷ last)))) ≡ option_or (option_map (λ (x : Held). x.kind) (cond t (Some h) (find (λ x. x.call == call) first))) (kind_or (new.call == call) new (kind_among call last))
+      → option_map (λ (x : Held). x.kind) (cond t (Some h) (find (λ x. x.call == call) (first ++ (new ∷ last))))
+      ≡ option_or (option_map (λ (x : Held). x.kind) (cond t (Some h) (find (λ x. x.call == call) first)))
+      (kind_or (new.call == call) new (kind_among call last))
   by true e = refl
   by false e = e
 
@@ -154,8 +158,12 @@ objects_few [] held order h = omega arith
 objects_few (o ∷ objects) held order h =
     let here = h o (Contains-head o objects) in
     let fewer = without_fewer o.call o.kind held here in
-    let rest = objects_few objects (held_without o.call held) (tail_ascends o.call (calls_of objects) order) (λ p there. kinds_without p.call o.call held (later p there) ∙ h p (Contains-tail o p objects there)) in
+    let rest = objects_few objects (held_without o.call held) (tail_ascends o.call (calls_of objects) order)
+    (λ p there. kinds_without p.call o.call held (later p there) ∙ h p (Contains-tail o p objects there)) in
     omega (arith, fewer, rest)
   where
     later : (p : ObjectView) → Contains objects p → p.call ≢ o.call
-    later p there same = let above = All-contains (λ (c : ℕ). o.call < c) (calls_of objects) p.call (all_above o.call (calls_of objects) order) (Contains-mapped (λ (q : ObjectView). q.call) objects p there) in omega (arith, above, same)
+    later p there same =
+        let above = All-contains (λ (c : ℕ). o.call < c) (calls_of objects) p.call (all_above o.call (calls_of objects) order)
+        (Contains-mapped (λ (q : ObjectView). q.call) objects p there) in
+        omega (arith, above, same)

@@ -47,8 +47,8 @@ other_place R8 low = λ e. omega (arith, e)
 other_place R9 low = λ e. omega (arith, e)
 other_place R10 low = absurd (cc)
 
-pub IsFrame-with : (frame : Frame ℕ) (r : Reg) (x : Option (Value ℕ)) → is_frame_pointer r ≡ false → FitsRegister x → IsFrame frame → IsFrame (with frame r x)
-IsFrame-with frame r x low fits h = record {
+pub IsFrame-with : {frame : Frame ℕ} (r : Reg) (x : Option (Value ℕ)) → is_frame_pointer r ≡ false → FitsRegister x → IsFrame frame → IsFrame (with frame r x)
+IsFrame-with {frame} r x low fits h = record {
   whole = length-set frame.registers (number_of r) x ∙ h.whole;
   deep = h.deep;
   pointer = get_or-set_other frame.registers (number_of r) 10 x None (other_place r low) ∙ h.pointer;
@@ -56,34 +56,34 @@ IsFrame-with frame r x low fits h = record {
 }
 
 -- a write on both sides
-set_at : (s : StateView) (frame : Frame ℕ) (objects : List ObjectView) (n : ℕ) (a : Abs) (x : Option (Value ℕ)) (k : ℕ)
+set_at : {s : StateView} {frame : Frame ℕ} {objects : List ObjectView} (n : ℕ) (a : Abs) (x : Option (Value ℕ)) (k : ℕ)
     → n < length s.registers → n < length frame.registers → k < 11 → AreOf s frame objects → IsOf (calls_of objects) a x
     → (k < n) ⊎ (n ≤ k) → IsOf (calls_of objects) (get_or (set s.registers n a) k Unset) (get_or (set frame.registers n x) k None)
-set_at s frame objects n a x k ls lr lt h e (inl below) =
+set_at {s} {frame} n a x k ls lr lt h e (inl below) =
     let other : k ≢ n = omega arith in
     rw (get_or-set_other s.registers n k a Unset other, get_or-set_other frame.registers n k x None other) (h.each k lt)
-set_at s frame objects n a x k ls lr lt h e (inr above) = elim (cases_lt n k) [
+set_at {s} {frame} n a x k ls lr lt h e (inr above) = elim (cases_lt n k) [
   | inl below ↦ let other : k ≢ n =
       omega arith in rw (get_or-set_other s.registers n k a Unset other, get_or-set_other frame.registers n k x None other) (h.each k lt)
   | inr not_below ↦ let same : k ≡ n = omega arith in rw (same, get_or-set_same s.registers n a Unset ls, get_or-set_same frame.registers n x None lr) e
 ]
 
-pub AreOf-with : (s : StateView) (frame : Frame ℕ) (objects : List ObjectView) (r : Reg) (a : Abs) (x : Option (Value ℕ))
+pub AreOf-with : {s : StateView} {frame : Frame ℕ} {objects : List ObjectView} (r : Reg) (a : Abs) (x : Option (Value ℕ))
     → length s.registers ≡ 11 → length frame.registers ≡ 11 → AreOf s frame objects → IsOf (calls_of objects) a x
     → AreOf (with_register s r a) (with frame r x) objects
-AreOf-with s frame objects r a x ls lr h e =
+AreOf-with r a x ls lr h e =
     let room = number_of-lt r in
-    record { each = λ k lt. set_at s frame objects (number_of r) a x k (omega arith) (omega arith) lt h e (cases_lt k (number_of r)); words = h.words; held = h.held }
+    record { each = λ k lt. set_at (number_of r) a x k (omega arith) (omega arith) lt h e (cases_lt k (number_of r)); words = h.words; held = h.held }
 
 -- ---- calls: r1 to r5 are lost, and the result is in r0
 
-pub IsFrame-lost : (frame : Frame ℕ) → IsFrame frame → IsFrame (without_arguments frame)
-IsFrame-lost frame h = lost R5 _ refl (lost R4 _ refl (lost R3 _ refl (lost R2 _ refl (lost R1 frame refl h)))) where
+pub IsFrame-lost : {frame : Frame ℕ} → IsFrame frame → IsFrame (without_arguments frame)
+IsFrame-lost {frame} h = lost R5 _ refl (lost R4 _ refl (lost R3 _ refl (lost R2 _ refl (lost R1 frame refl h)))) where
   lost : (r : Reg) (f : Frame ℕ) → is_frame_pointer r ≡ false → IsFrame f → IsFrame (unset f r)
-  lost r f low g = IsFrame-with f r None low tt g
+  lost r f low g = IsFrame-with r None low tt g
 
-pub IsFrame-result : (frame : Frame ℕ) (v : Value ℕ) → FitsValue v → IsFrame frame → IsFrame (with_value (without_arguments frame) R0 v)
-IsFrame-result frame v fits h = IsFrame-with (without_arguments frame) R0 (Some v) refl fits (IsFrame-lost frame h)
+pub IsFrame-result : {frame : Frame ℕ} (v : Value ℕ) → FitsValue v → IsFrame frame → IsFrame (with_value (without_arguments frame) R0 v)
+IsFrame-result v fits h = IsFrame-with R0 (Some v) refl fits (IsFrame-lost h)
 
 -- both sides have all registers, and what is known speaks of the frame
 record AreBoth (s : StateView) (frame : Frame ℕ) (objects : List ObjectView) : Type 0 where
@@ -91,23 +91,23 @@ record AreBoth (s : StateView) (frame : Frame ℕ) (objects : List ObjectView) :
   whole : length frame.registers ≡ 11
   state : AreOf s frame objects
 
-both_with : (s : StateView) (frame : Frame ℕ) (objects : List ObjectView) (r : Reg) (a : Abs) (x : Option (Value ℕ))
+both_with : {s : StateView} {frame : Frame ℕ} {objects : List ObjectView} (r : Reg) (a : Abs) (x : Option (Value ℕ))
     → IsOf (calls_of objects) a x → AreBoth s frame objects → AreBoth (with_register s r a) (with frame r x) objects
-both_with s frame objects r a x e h = record {
+both_with {s} {frame} r a x e h = record {
   known = length-set s.registers (number_of r) a ∙ h.known;
   whole = length-set frame.registers (number_of r) x ∙ h.whole;
-  state = AreOf-with s frame objects r a x h.known h.whole h.state e;
+  state = AreOf-with r a x h.known h.whole h.state e;
 }
 
-both_lost : (s : StateView) (frame : Frame ℕ) (objects : List ObjectView) → AreBoth s frame objects
+both_lost : {s : StateView} {frame : Frame ℕ} {objects : List ObjectView} → AreBoth s frame objects
     → AreBoth (known.without_arguments s) (without_arguments frame) objects
-both_lost s frame objects h = lost R5 _ _ (lost R4 _ _ (lost R3 _ _ (lost R2 _ _ (lost R1 s frame h)))) where
+both_lost {s} {frame} {objects} h = lost R5 _ _ (lost R4 _ _ (lost R3 _ _ (lost R2 _ _ (lost R1 s frame h)))) where
   lost : (r : Reg) (t : StateView) (f : Frame ℕ) → AreBoth t f objects → AreBoth (with_register t r Unset) (unset f r) objects
-  lost r t f b = both_with t f objects r Unset None tt b
+  lost r t f b = both_with r Unset None tt b
 
 -- what is known after a call speaks of the frame after it
-pub AreOf-result : (s : StateView) (frame : Frame ℕ) (objects : List ObjectView) (a : Abs) (v : Value ℕ) → length s.registers ≡ 11
+pub AreOf-result : {s : StateView} {frame : Frame ℕ} {objects : List ObjectView} (a : Abs) (v : Value ℕ) → length s.registers ≡ 11
     → length frame.registers ≡ 11 → AreOf s frame objects → IsOf (calls_of objects) a (Some v)
     → AreOf (with_result a s) (with_value (without_arguments frame) R0 v) objects
-AreOf-result s frame objects a v ls lr h e =
-    (both_with (known.without_arguments s) (without_arguments frame) objects R0 a (Some v) e (both_lost s frame objects (record { known = ls; whole = lr; state = h }))).state
+AreOf-result a v ls lr h e =
+    (both_with R0 a (Some v) e (both_lost (record { known = ls; whole = lr; state = h }))).state

@@ -58,7 +58,9 @@ IsOf-joined_right calls (Num a) (Num b) (Some (Number n)) h = (right_number a b 
 IsOf-joined_right calls (Stk a) (Stk b) (Some (Pointer Stack w)) h =
     chosen calls (int_eq a b) (Stk a) (Some (Pointer Stack w)) (λ e. h ∙ sym (int_eq-true a b e))
 IsOf-joined_right calls (Ctx a b) (Ctx c d) (Some (Pointer Context w)) h = (right_low a c w h.0, right_high b d w h.1)
-IsOf-joined_right calls (Ob r a b) (Ob q c d) (Some (Pointer (Object at) w)) h = chosen calls (eqb r q) (Ob r (int_min a c) (int_max b d)) (Some (Pointer (Object at) w)) (λ e. let same = sym (eqb-same r q e) in (h.0 ∙ same, right_low a c w h.1, right_high b d w h.2, subst (Contains calls) same h.3))
+IsOf-joined_right calls (Ob r a b) (Ob q c d) (Some (Pointer (Object at) w)) h =
+    chosen calls (eqb r q) (Ob r (int_min a c) (int_max b d)) (Some (Pointer (Object at) w))
+    (λ e. let same = sym (eqb-same r q e) in (h.0 ∙ same, right_low a c w h.1, right_high b d w h.2, subst (Contains calls) same h.3))
 IsOf-joined_right calls (May r) (May q) (Some (Pointer (Object at) w)) h =
     chosen calls (eqb r q) (May r) (Some (Pointer (Object at) w)) (λ e. let same = sym (eqb-same r q e) in (h.0 ∙ same, h.1, subst (Contains calls) same h.2))
 IsOf-joined_right calls (May r) (May q) (Some (Number n)) h =

@@ -1,5 +1,6 @@
 -- What is known of the words of a stack speaks of its cells, through joins and null tests.
-use Rattle.std.proofs.Common.{◌≡◌, ℕ, zero, suc, ◌+◌, ◌-◌, ◌*◌, ◌/◌, ◌^◌, ◌<◌, ◌≤◌, min, ℤ, pos, negsuc, ◌+ℤ◌, Bool, true, false, cond, List, [], Option, Some, None, refl, sym, ap, ◌∙◌, subst, arith}
+use Rattle.std.proofs.Common.{◌≡◌, ℕ, zero, suc, ◌+◌, ◌-◌, ◌*◌, ◌/◌, ◌^◌, ◌<◌, ◌≤◌, min, ℤ, pos, negsuc, ◌+ℤ◌, Bool, true, false, cond, List, []}
+use Rattle.std.proofs.Common.{Option, Some, None, refl, sym, ap, ◌∙◌, subst, arith}
 use Rattle.std.specs.Prelude.{◌==◌, ◌&&◌, int_le, nat_abs}
 use Rattle.std.proofs.Math.Nat.{pow-suc}
 use Rattle.std.proofs.lemmas.Nat.{pow_pos}
@@ -37,7 +38,8 @@ abbrev pub word_cells : List (Cell ℕ) → ℕ → ℕ → Cell ℕ
 word_cells stack w j = cell_at stack (8 * w + j)
 
 -- what is known of a word speaks of the same cells under another name
-pub same_cells : (calls : List ℕ) (word : Word) (old new : ℕ → Cell ℕ) → ((j : ℕ) → j < 8 → old j ≡ new j) → IsOfCells calls word old → IsOfCells calls word new
+pub same_cells : (calls : List ℕ) (word : Word) (old new : ℕ → Cell ℕ) → ((j : ℕ) → j < 8 → old j ≡ new j) → IsOfCells calls word old
+    → IsOfCells calls word new
 same_cells calls (Spill a) old new same h = (h.0, h.1, λ j lt. sym (same j lt) ∙ h.2 j lt, h.3)
 same_cells calls (Bytes mask) old new same h = λ j lt e. subst IsByte (same j lt) (h j lt e)
 
@@ -116,7 +118,9 @@ settled_cells calls call null (Bytes mask) cells values h = h
 -- ---- the first state
 
 pub first_cells : AreOfCells [] first_state.words empty_stack
-first_cells w lt = subst (λ (word : Word). IsOfCells [] word (word_cells empty_stack w)) (sym (get_or-replicate 64 w (Bytes 0) (Bytes 0) lt)) (nothing_known [] (word_cells empty_stack w))
+first_cells w lt =
+    subst (λ (word : Word). IsOfCells [] word (word_cells empty_stack w)) (sym (get_or-replicate 64 w (Bytes 0) (Bytes 0) lt))
+    (nothing_known [] (word_cells empty_stack w))
 
 -- ---- the bytes of a load or a store
 

@@ -48,9 +48,9 @@ one_at_most step.Empty = omega arith
 one_at_most (step.Fetched slot bytes) = omega arith
 
 -- the replies after an instruction that was served so
-told_next : (v : RunView) (served : Served) (may : Offers) → IsSound v → AreSized v → v.status ≡ Going
+told_next : {v : RunView} (served : Served) (may : Offers) → IsSound v → AreSized v → v.status ≡ Going
     → MayAnswer may v.pc (asking_in v) served → (stepped (result_of served) v).replies ≡ v.replies ++ told_by served
-told_next v served may sound sized going can = by (asks_of v (next_of v sound sized going)) where
+told_next {v} served may sound sized going can = by (asks_of v (next_of v sound sized going)) where
   answered : (asked : Asking) → asking_in v ≡ asked → MayAnswer may v.pc asked served
   answered asked e = subst (λ (a : Asking). MayAnswer may v.pc a served) e can
 
@@ -77,7 +77,8 @@ pub sized_out : {S H : Type 0} (o : Store S H) (s : S) (r : RunState H) → Have
 sized_out o s r sizes known out =
     All-map (λ (x : ObjectView). length x.bytes ≡ length (image_at (kinds_of r.subject.rows) x.kind)) (object_seen (o.bytes_of s)) r.held
     (λ k d few. let h = out.out k d few in
-    (sizes (get_or r.held k d).object h.0).0 ∙ ap (λ (kind : ℕ). length (image_at o.kinds kind)) h.1 ∙ ap (λ (ks : List Kind). length (image_at ks (get_or r.held k d).kind)) known)
+    (sizes (get_or r.held k d).object h.0).0 ∙ ap (λ (kind : ℕ). length (image_at o.kinds kind)) h.1
+    ∙ ap (λ (ks : List Kind). length (image_at ks (get_or r.held k d).kind)) known)
 
 -- a run that is sound and where the run alone is, with its objects out of its store, of kinds that the store has
 pub record IsReadyIn {S H : Type 0} (o : Store S H) (s : S) (r : RunState H) : Type 0 where
@@ -93,11 +94,12 @@ told_turn o old new r t sizes ready turn =
     let v = seen_in o old r in
     let now : v.status ≡ Going = ap status_of turn.going in
     let s : IsStepOver o r t old new = turn.step in
-    ap (λ (u : RunView). u.replies) s.2.state ∙ told_next v s.0 (offers_of o old) ready.sound (sized_out o old r sizes ready.kinds ready.out) now s.1
+    ap (λ (u : RunView). u.replies) s.2.state ∙ told_next s.0 (offers_of o old) ready.sound (sized_out o old r sizes ready.kinds ready.out) now s.1
 
 -- one step
-gone_turn : {S H : Type 0} (o : Store S H) (old new : S) (r t : RunState H) → HaveSizes o old → IsReadyIn o old r → IsTurn o r t old new → HasGone o r t old new
-gone_turn o old new r t sizes ready turn =
+gone_turn : {S H : Type 0} {o : Store S H} {old new : S} {r t : RunState H} → HaveSizes o old → IsReadyIn o old r → IsTurn o r t old new
+    → HasGone o r t old new
+gone_turn {o} {old} {new} {r} {t} sizes ready turn =
     let s : IsStepOver o r t old new = turn.step in
     record {
       told = told_by s.0;
@@ -117,9 +119,9 @@ pub none_gone : {S H : Type 0} (o : Store S H) (s : S) (r : RunState H) → HasG
 none_gone o s r = record { told = []; replies = sym (append-nil r.replies); goes = o.stays s; few = omega arith; outs = λ k. refl }
 
 -- steps after steps
-pub gone_then : {S H : Type 0} (o : Store S H) (old between new : S) (r t u : RunState H) → HasGone o r t old between
+pub gone_then : {S H : Type 0} {o : Store S H} {old between new : S} {r t u : RunState H} → HasGone o r t old between
     → HasGone o t u between new → HasGone o r u old new
-gone_then o old between new r t u was more = record {
+gone_then {o} {old} {between} {new} {r} was more = record {
   told = was.told ++ more.told;
   replies = more.replies ∙ ap (λ (rs : List Reply). rs ++ more.told) was.replies ∙ append_assoc r.replies was.told more.told;
   goes = o.goes_on old between new was.told more.told was.goes more.goes;
@@ -127,21 +129,26 @@ gone_then o old between new r t u was more = record {
   outs = λ k. let before = was.outs k in let after = more.outs k in omega (arith, before, after);
 }
 
-pub went : {S H : Type 0} (o : Store S H) (old new : S) (number : ℕ) (r t : RunState H) → ((s : S) → HaveSizes o s)
+pub went : {S H : Type 0} {o : Store S H} {old : S} (new : S) (number : ℕ) {r : RunState H} (t : RunState H) → ((s : S) → HaveSizes o s)
     → IsReadyIn o old r → AreTurns o number r t old new → IsGone o old new r t
-went o old new zero r t sizes ready turns = rw (turns.0, turns.1) (record { ready = ready; same = (refl, refl); gone = none_gone o old r })
-went o old new (suc number) r t sizes ready turns =
-    let before = went o old turns.store number r turns.run sizes ready turns.before in
+went {o} {old} new zero {r} t sizes ready turns = rw (turns.0, turns.1) (record { ready = ready; same = (refl, refl); gone = none_gone o old r })
+went {o} {old} new (suc number) {r} t sizes ready turns =
+    let before = went turns.store number turns.run sizes ready turns.before in
     let last = turns.last in
     record {
-      ready = record { out = last.out; sound = last.sound (o.bytes_of new); alone = last.alone; kinds = before.ready.kinds ∙ ap (λ (s : Subject). kinds_of s.rows) (sym last.same.0) };
+      ready = record {
+        out = last.out;
+        sound = last.sound (o.bytes_of new);
+        alone = last.alone;
+        kinds = before.ready.kinds ∙ ap (λ (s : Subject). kinds_of s.rows) (sym last.same.0);
+      };
       same = (last.same.0 ∙ before.same.0, last.same.1 ∙ before.same.1);
-      gone = gone_then o old turns.store new r turns.run t before.gone (gone_turn o turns.store new turns.run t (sizes turns.store) before.ready last);
+      gone = gone_then before.gone (gone_turn (sizes turns.store) before.ready last);
     }
 
-pub gone_by : {S H : Type 0} (o : Store S H) (old new : S) (number : ℕ) (r t : RunState H) → ((s : S) → HaveSizes o s)
+pub gone_by : {S H : Type 0} {o : Store S H} {old : S} (new : S) (number : ℕ) {r : RunState H} (t : RunState H) → ((s : S) → HaveSizes o s)
     → IsReadyIn o old r → AreTurns o number r t old new → HasGone o r t old new
-gone_by o old new number r t sizes ready turns = (went o old new number r t sizes ready turns).gone
+gone_by new number t sizes ready turns = (went new number t sizes ready turns).gone
 
 -- a run of this program on this context, since the first state of its store: the store went by what the run was answered, each reply was to
 -- an instruction, and of each kind as many more are out as the run holds
@@ -156,11 +163,11 @@ pub record IsUnderWay {S H : Type 0} (o : Store S H) (first now : S) (subject : 
   pub outs : (k : ℕ) → o.outs now k ≡ o.outs first k + held_of_kind r.held k
 
 pub under_way : {S H : Type 0} (o : Store S H) (first old new : S) (subject : Subject) (context : List ℕ) (number : ℕ) (r t : RunState H)
-    → ((s : S) → HaveSizes o s)
-    → o.kinds ≡ kinds_of subject.rows → IsUnderWay o first old subject context r → AreTurns o number r t old new → IsUnderWay o first new subject context t
+    → ((s : S) → HaveSizes o s) → o.kinds ≡ kinds_of subject.rows → IsUnderWay o first old subject context r → AreTurns o number r t old new
+    → IsUnderWay o first new subject context t
 under_way o first old new subject context number r t sizes kinds was turns =
     let known = kinds ∙ ap (λ (s : Subject). kinds_of s.rows) (sym was.subject_is) in
-    let after = went o old new number r t sizes (record { out = was.out; sound = was.sound; alone = was.alone; kinds = known }) turns in
+    let after = went new number t sizes (record { out = was.out; sound = was.sound; alone = was.alone; kinds = known }) turns in
     let gone = after.gone in
     record {
       subject_is = after.same.0 ∙ was.subject_is;

@@ -1,6 +1,7 @@
 -- What an instruction asks of whoever answers is what its effect asks, and what its run sees of it; and what it writes to or gives
 -- back is there.
-use Rattle.std.proofs.Common.{◌≡◌, ℕ, ◌+◌, ◌<◌, ◌≤◌, ℤ, pos, negsuc, ◌+ℤ◌, Bool, true, false, cond, List, length, Option, Some, None, Result, Ok, Err, refl, sym, ap, ◌∙◌, subst, arith, rules, inl, inr}
+use Rattle.std.proofs.Common.{◌≡◌, ℕ, ◌+◌, ◌<◌, ◌≤◌, ℤ, pos, negsuc, ◌+ℤ◌, Bool, true, false, cond, List, length, Option, Some, None, Result, Ok}
+use Rattle.std.proofs.Common.{Err, refl, sym, ap, ◌∙◌, subst, arith, rules, inl, inr}
 use Rattle.std.specs.Prelude.{slice_get, nat_lt, nat_abs, int_le, ◌&&◌, ◌==◌}
 use Rattle.std.specs.Ordering.{int_eq}
 use Rattle.std.proofs.lemmas.Bool.{ltb-true, eqb-true, and_parts}
@@ -27,7 +28,11 @@ use Rattle.ebpf_machine.specs.declared.value.Value.TheVariants.{Number, Pointer}
 use Rattle.ebpf_machine.specs.declared.value.Cell.{Cell}
 use Rattle.ebpf_machine.specs.Values.{Trap, BadCall, FramePointerWritten, Leak, Frame, read, source_value}
 use Rattle.ebpf_machine.specs.Cells.{place_in, stored_at}
-use Rattle.ebpf_machine.specs.Effect.{Found, Environment, Act, Nothing, Write, Ask, Free, Exchange, Effect, Goes, Ends, Traps, effect_at, effect, unary, alu_value, with_value, written, is_taken, loaded, rewritten, written_at, writes_object, effect_of_store, without_arguments, with_zero, effect_of_new, effect_of_freeing, effect_of_free, effect_of_emit, exchanges, effect_of_giving, effect_of_swapping, effect_of_swap, effect_of_call, effect_of_jump, effect_of_branch, effect_of_exit, result_number}
+use Rattle.ebpf_machine.specs.Effect.{Found, Environment, Act, Nothing, Write, Ask, Free, Exchange, Effect, Goes, Ends, Traps, effect_at, effect}
+use Rattle.ebpf_machine.specs.Effect.{unary, alu_value, with_value, written, is_taken, loaded, rewritten, written_at, writes_object}
+use Rattle.ebpf_machine.specs.Effect.{effect_of_store, without_arguments, with_zero, effect_of_new, effect_of_freeing, effect_of_free}
+use Rattle.ebpf_machine.specs.Effect.{effect_of_emit, exchanges, effect_of_giving, effect_of_swapping, effect_of_swap, effect_of_call}
+use Rattle.ebpf_machine.specs.Effect.{effect_of_jump, effect_of_branch, effect_of_exit, result_number}
 use Rattle.ebpf_machine.specs.World.{Name, Kind, World, Running}
 use Rattle.ebpf_machine.specs.Events.{Asking, Unasked, OfNoKind, OfKind, AtShelf, asking_for, asking_shelf, asking_helper, asking, asking_of}
 use Rattle.ebpf_machine.specs.Renaming.{register_renamed}
@@ -64,7 +69,8 @@ AsksFor a asked (Goes act to after) = (asked ≡ asked_by act) × IsThere a act
 AsksFor a asked (Ends n) = asked ≡ Unasked
 AsksFor a asked (Traps trap) = Unit {0}
 
-written_asks : {N : Type 0} (a : Environment N) (to : ℕ) (frame : Frame N) (dst : Reg) (r : Result (Value N) Trap) → AsksFor a Unasked (written to frame dst r)
+written_asks : {N : Type 0} (a : Environment N) (to : ℕ) (frame : Frame N) (dst : Reg) (r : Result (Value N) Trap)
+    → AsksFor a Unasked (written to frame dst r)
 written_asks a to frame dst (Err trap) = tt
 written_asks {N} a to frame dst (Ok v) = by (is_frame_pointer dst) where
   by : (t : Bool) → AsksFor a Unasked (cond t (Traps FramePointerWritten) (Goes Nothing to (with_value frame dst v)))
@@ -127,12 +133,14 @@ stores_asks to a frame size offset (Some (Number n)) (Some v) = tt
 stores_asks to a frame size offset (Some (Pointer Stack k)) (Some v) =
     rewritten_asks a to frame (stored_at (place_of (k +ℤ offset) (bytes_in size)) (bytes_in size) v frame.stack)
 stores_asks to a frame size offset (Some (Pointer Context k)) (Some v) = tt
-stores_asks to a frame size offset (Some (Pointer (Object name) k)) (Some v) = object_asks a to frame name (a.object name) (k +ℤ offset) (bytes_in size) v refl
+stores_asks to a frame size offset (Some (Pointer (Object name) k)) (Some v) =
+    object_asks a to frame name (a.object name) (k +ℤ offset) (bytes_in size) v refl
 
 news_asks : {N : Type 0} (to : ℕ) (a : Environment N) (frame : Frame N) (x : Option (Value N)) → AsksFor a (asking_for x a.kinds) (effect_of_new to a frame x)
 news_asks to a frame None = tt
 news_asks {N} to a frame (Some (Number kind)) = by (nat_lt kind a.kinds) refl where
-  by : (t : Bool) → nat_lt kind a.kinds ≡ t → AsksFor a (cond t (OfKind kind) OfNoKind) (cond t (Goes (Ask kind) to (without_arguments frame)) (Traps BadCall))
+  by : (t : Bool) → nat_lt kind a.kinds ≡ t
+      → AsksFor a (cond t (OfKind kind) OfNoKind) (cond t (Goes (Ask kind) to (without_arguments frame)) (Traps BadCall))
   by true e = (refl, ltb-true kind a.kinds e)
   by false e = tt
 news_asks to a frame (Some (Pointer base k)) = tt
@@ -164,7 +172,8 @@ exchanges_asks : {N : Type 0} (a : Environment N) (to : ℕ) (frame : Frame N) (
 exchanges_asks a to frame asked shelf given true h = h refl
 exchanges_asks a to frame asked shelf given false h = tt
 
-giving_asks : {N : Type 0} (a : Environment N) (to : ℕ) (frame : Frame N) (asked : Asking) (known : Bool) (shelf : ℕ) (name : N) (r : Result Found Trap) (k : ℤ)
+giving_asks : {N : Type 0} (a : Environment N) (to : ℕ) (frame : Frame N) (asked : Asking) (known : Bool) (shelf : ℕ) (name : N) (r : Result Found Trap)
+    (k : ℤ)
     → a.object name ≡ r → (known ≡ true → (asked ≡ AtShelf shelf) × (shelf < a.kinds))
     → AsksFor a asked (effect_of_giving to frame known shelf name r k)
 giving_asks a to frame asked known shelf name (Err trap) k is h = tt
@@ -187,7 +196,9 @@ swaps_asks : {N : Type 0} (to : ℕ) (a : Environment N) (frame : Frame N) (x y 
     → AsksFor a (asking_shelf x a.kinds) (effect_of_swap to a frame x y)
 swaps_asks to a frame None y = tt
 swaps_asks to a frame (Some shelf) None = tt
-swaps_asks {N} to a frame (Some (Number shelf)) (Some given) = swapping_asks a to frame (asking_shelf {N = N} (Some (Number shelf)) a.kinds) (nat_lt shelf a.kinds) shelf given (λ known. (ap (λ (t : Bool). cond t (AtShelf shelf) Unasked) known, ltb-true shelf a.kinds known))
+swaps_asks {N} to a frame (Some (Number shelf)) (Some given) =
+    swapping_asks a to frame (asking_shelf {N = N} (Some (Number shelf)) a.kinds) (nat_lt shelf a.kinds) shelf given
+    (λ known. (ap (λ (t : Bool). cond t (AtShelf shelf) Unasked) known, ltb-true shelf a.kinds known))
 swaps_asks to a frame (Some (Pointer base k)) (Some given) = swapping_asks a to frame Unasked false 0 given (λ known. absurd (cc))
 
 calls_asks : {N : Type 0} (helper : Option Helper) (to : ℕ) (a : Environment N) (frame : Frame N)
@@ -206,7 +217,9 @@ effect_asks (insn.Swap order bits dst) pc a frame = written_asks a _ frame dst (
 effect_asks (insn.Wide dst value) pc a frame = written_asks a _ frame dst (Ok (Number value))
 effect_asks (insn.Jump offset) pc a frame = jumps_asks a (jump_of (insn.Jump offset) pc) frame
 effect_asks (insn.JumpFar offset) pc a frame = jumps_asks a (jump_of (insn.JumpFar offset) pc) frame
-effect_asks (insn.Branch width condition left right offset) pc a frame = branches_asks a _ (jump_of (insn.Branch width condition left right offset) pc) frame (is_taken width condition right (read frame left) (source_value frame width right))
+effect_asks (insn.Branch width condition left right offset) pc a frame =
+    branches_asks a _ (jump_of (insn.Branch width condition left right offset) pc) frame
+    (is_taken width condition right (read frame left) (source_value frame width right))
 effect_asks insn.Exit pc a frame = exits_asks a a.holds (read frame R0)
 effect_asks (insn.Load size signed dst base offset) pc a frame = written_asks a _ frame dst (loaded a frame.stack size signed offset (read frame base))
 effect_asks (insn.Store size base offset src) pc a frame = stores_asks _ a frame size offset (read frame base) (source_value frame W64 src)
@@ -243,10 +256,12 @@ shelf_asks (Some (Pointer base k)) kinds = refl
 
 helper_asks : (helper : Option Helper) (kinds : ℕ) (frame : Frame Name) → asking_helper helper kinds (frame_seen frame) ≡ asking_helper helper kinds frame
 helper_asks None kinds frame = refl
-helper_asks (Some helper.New) kinds frame = ap (λ (x : Option (Value ℕ)). asking_for x kinds) (read-told by_call frame R1) ∙ register_asks (read frame R1) kinds
+helper_asks (Some helper.New) kinds frame =
+    ap (λ (x : Option (Value ℕ)). asking_for x kinds) (read-told by_call frame R1) ∙ register_asks (read frame R1) kinds
 helper_asks (Some helper.Free) kinds frame = refl
 helper_asks (Some helper.Emit) kinds frame = refl
-helper_asks (Some helper.Swap) kinds frame = ap (λ (x : Option (Value ℕ)). asking_shelf x kinds) (read-told by_call frame R1) ∙ shelf_asks (read frame R1) kinds
+helper_asks (Some helper.Swap) kinds frame =
+    ap (λ (x : Option (Value ℕ)). asking_shelf x kinds) (read-told by_call frame R1) ∙ shelf_asks (read frame R1) kinds
 
 insn_asks : (i : Insn) (kinds : ℕ) (frame : Frame Name) → asking (Some i) kinds (frame_seen frame) ≡ asking (Some i) kinds frame
 insn_asks (insn.Call number) kinds frame = helper_asks (helper_of number) kinds frame

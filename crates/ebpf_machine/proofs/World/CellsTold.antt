@@ -1,5 +1,6 @@
 -- What is loaded from the stack and stored to it is, with names changed, what is loaded and stored.
-use Rattle.std.proofs.Common.{◌≡◌, ℕ, zero, suc, ◌+◌, ◌-◌, ◌/◌, ℤ, Bool, true, false, cond, not, List, [], ◌∷◌, Option, Some, None, Result, Ok, Err, refl, sym, ap, arith}
+use Rattle.std.proofs.Common.{◌≡◌, ℕ, zero, suc, ◌+◌, ◌-◌, ◌/◌, ℤ, Bool, true, false, cond, not, List, [], ◌∷◌, Option, Some, None, Result, Ok, Err}
+use Rattle.std.proofs.Common.{refl, sym, ap, arith}
 use Rattle.std.specs.Prelude.{map, Contains, ◌&&◌, ◌==◌}
 use Rattle.std.specs.List.{enumerate_from}
 use Rattle.std.specs.Ordering.{int_eq}
@@ -11,7 +12,9 @@ use Rattle.ebpf_machine.specs.declared.value.Value.TheVariants.{Number, Pointer}
 use Rattle.ebpf_machine.specs.declared.value.Cell.{Cell}
 use Rattle.ebpf_machine.specs.declared.value.Cell.TheVariants.{Unset, Byte, Part}
 use Rattle.ebpf_machine.specs.Values.{Trap, PointerMisuse, Frame}
-use Rattle.ebpf_machine.specs.Cells.{cell_at, is_same_base, is_same_pointer, is_part, are_parts, pointer_from, with_byte, number_from, loaded_number, loaded_word, loaded_at, read_at, cell_of, left_over, touches, is_among, stored_cell, stored_cells, is_pointer, stored_at}
+use Rattle.ebpf_machine.specs.Cells.{cell_at, is_same_base, is_same_pointer, is_part, are_parts, pointer_from, with_byte, number_from}
+use Rattle.ebpf_machine.specs.Cells.{loaded_number, loaded_word, loaded_at, read_at, cell_of, left_over, touches, is_among, stored_cell}
+use Rattle.ebpf_machine.specs.Cells.{stored_cells, is_pointer, stored_at}
 use Rattle.ebpf_machine.specs.Renaming.{base_renamed, value_renamed, cell_renamed}
 use Rattle.ebpf_machine.specs.Sound.{Names, NamesPart, HasPointer, InCell}
 use Rattle.ebpf_machine.proofs.World.Telling.{Telling, trap_told}
@@ -147,8 +150,16 @@ loaded_at-told how one seen None bytes signed stack alike = refl
 loaded_at-told how one seen (Some place) bytes signed stack alike =
     let pointer = from-told how one seen (cell_at stack place) stack place alike (λ m part. (place, part)) in
     let n = number_from stack place bytes in
-    rw (cell_at-told how stack place, pointer, number-told how stack place bytes, loaded_word-told how (pointer_from one (cell_at stack place) stack place) n bytes signed, loaded_number-told how n bytes signed)
-    (chosen-told how (is_whole_word place bytes) (loaded_word (pointer_from one (cell_at stack place) stack place) n bytes signed) (loaded_number n bytes signed))
+    rw (
+      cell_at-told how stack place,
+      pointer,
+      number-told how stack place bytes,
+      loaded_word-told how
+          (pointer_from one (cell_at stack place) stack place) n bytes signed,
+      loaded_number-told how n bytes signed,
+    )
+    (chosen-told how (is_whole_word place bytes) (loaded_word (pointer_from one (cell_at stack place) stack place) n bytes signed)
+    (loaded_number n bytes signed))
 
 pub read_at-told : {N M : Type 0} → (how : Telling N M)
     → (outside : Trap) (place : Option ℕ) (bytes : ℕ) (signed : Bool) (source : List ℕ) → trap_told how outside ≡ outside
@@ -179,7 +190,8 @@ stored_cell-told how place bytes v i c =
     (one_of-told how (is_among place bytes i) (cell_of v (i - place)) (cond (touches place bytes (i / 8)) (left_over c) c))
 
 stored_from-told : {N M : Type 0} → (how : Telling N M) → (place bytes : ℕ) (v : Value N) (from : ℕ) (stack : List (Cell N))
-    → map (λ p. stored_cell place bytes (value_renamed how.name v) p.0 p.1) (enumerate_from from (map (cell_renamed how.name) stack)) ≡ map (cell_renamed how.name) (map (λ p. stored_cell place bytes v p.0 p.1) (enumerate_from from stack))
+    → map (λ p. stored_cell place bytes (value_renamed how.name v) p.0 p.1) (enumerate_from from (map (cell_renamed how.name) stack))
+    ≡ map (cell_renamed how.name) (map (λ p. stored_cell place bytes v p.0 p.1) (enumerate_from from stack))
 stored_from-told how place bytes v from [] = refl
 stored_from-told how place bytes v from (c ∷ stack) = rw (stored_cell-told how place bytes v from c, stored_from-told how place bytes v (from + 1) stack) refl
 
@@ -196,4 +208,5 @@ pub stored_at-told : {N M : Type 0} → (how : Telling N M) → (place : Option 
     → stored_at place bytes (value_renamed how.name v) (map (cell_renamed how.name) stack) ≡ stack_told how (stored_at place bytes v stack)
 stored_at-told how None bytes v stack = refl
 stored_at-told how (Some place) bytes v stack =
-    rw (is_pointer-told how v, stored_from-told how place bytes v 0 stack) (either-told how (is_pointer v && not (is_whole_word place bytes)) (stored_cells place bytes v stack))
+    rw (is_pointer-told how v, stored_from-told how place bytes v 0 stack)
+    (either-told how (is_pointer v && not (is_whole_word place bytes)) (stored_cells place bytes v stack))

@@ -1,10 +1,12 @@
 -- What is on a shelf is exchanged: what the runs of a world hold then, and what they see of it.
-use Rattle.std.proofs.Common.{◌≡◌, ◌≢◌, ◌⊎◌, inl, inr, ℕ, Bool, true, false, cond, not, ◌&&◌, List, [], ◌∷◌, ◌++◌, map, filter, Option, Some, None, option_map, refl, sym, ap, ◌∙◌, subst}
+use Rattle.std.proofs.Common.{◌≡◌, ◌≢◌, ◌⊎◌, inl, inr, ℕ, Bool, true, false, cond, not, ◌&&◌, List, [], ◌∷◌, ◌++◌, map, filter, Option, Some, None}
+use Rattle.std.proofs.Common.{option_map, refl, sym, ap, ◌∙◌, subst}
 use Rattle.std.specs.Prelude.{Contains, ◌==◌}
 use Rattle.std.proofs.lemmas.Bool.{eq-eqb, ne_eqb, and_from, not-false, and_parts}
 use Rattle.std.proofs.lemmas.List.{append-nil}
 use Rattle.std.proofs.lemmas.List.Elements.{filter-append, Contains-append_left, Contains-push_cases}
-use Rattle.ebpf_machine.specs.World.{Name, World, Running, Owner, Holder, Run, Shelf, is_run, is_call, is_shelf, standing, held_by, kind_in, name_of, IsOfKind}
+use Rattle.ebpf_machine.specs.World.{Name, World, Running, Owner, Holder, Run, Shelf, is_run, is_call, is_shelf, standing, held_by, kind_in}
+use Rattle.ebpf_machine.specs.World.{name_of, IsOfKind}
 use Rattle.ebpf_machine.specs.Events.{with_run, with_owner, without_owner, without_shelved, put_on, fetched}
 use Rattle.ebpf_machine.specs.View.{ObjectView, call_of, object_in, without_given}
 use Rattle.ebpf_machine.specs.Advance.{slots_without}
@@ -77,7 +79,8 @@ pub given_dropped : (w : World) (run : ℕ) (name : Name) → Contains w.owners 
     → IsDropped w (owner_of run name) (λ p. not ((p.slot == name.slot) && is_call run name.call p.holder))
 given_dropped w run name own = record {
   among = own;
-  drops = ap not (and_from (name.slot == name.slot) (is_call run name.call (Run run name.call)) (eq-eqb name.slot name.slot refl) (call_is run name.call (Run run name.call) refl));
+  drops = ap not (and_from (name.slot == name.slot) (is_call run name.call (Run run name.call)) (eq-eqb name.slot name.slot refl)
+      (call_is run name.call (Run run name.call) refl));
   only = λ p among e. its_owner run name p (not-false (has_name run name p) e);
 }
 
@@ -90,8 +93,11 @@ given_with_run w run shelf (Some name) now own = own
 pub given_fetched : (w : World) (run at shelf : ℕ) (o : Owner) (given : Option Name) (now : Running) → IsOwnGiven w run shelf given
     → IsOwnGiven (fetched o shelf run at (with_run w run now)) run shelf given
 given_fetched w run at shelf o None now own = tt
-given_fetched w run at shelf o (Some name) now own =
-    (Contains-append_left (filter (stays_off o.slot shelf) w.owners) _ (owner_of run name) (Contains-kept (stays_off o.slot shelf) w.owners (owner_of run name) own.0 (ap not (and_false (name.slot == o.slot)))), own.1)
+given_fetched w run at shelf o (Some name) now own = (
+  Contains-append_left (filter (stays_off o.slot shelf) w.owners) _ (owner_of run name)
+      (Contains-kept (stays_off o.slot shelf) w.owners (owner_of run name) own.0 (ap not (and_false (name.slot == o.slot)))),
+  own.1,
+)
 
 -- nothing is on the shelf then
 pub fetched_off : (w : World) (run at shelf : ℕ) (o p : Owner) → IsOwned w → StandsOn w shelf o
@@ -128,8 +134,11 @@ held_unshelved w run slot shelf =
     alike here (Run r at) = ap (λ (t : Bool). not t && (r == run)) (and_false here)
     alike here (Shelf s) = and_false (not (here && (s == shelf)))
 
-pub held_fetched : (w : World) (run at shelf : ℕ) (o : Owner) → held_by (fetched o shelf run at w) run ≡ held_by w run ++ owner_of run (name_of o.slot at) ∷ []
-held_fetched w run at shelf o = held_granted (without_shelved o.slot shelf w) run at o.slot ∙ ap (λ (os : List Owner). os ++ owner_of run (name_of o.slot at) ∷ []) (held_unshelved w run o.slot shelf)
+pub held_fetched : (w : World) (run at shelf : ℕ) (o : Owner)
+    → held_by (fetched o shelf run at w) run ≡ held_by w run ++ owner_of run (name_of o.slot at) ∷ []
+held_fetched w run at shelf o =
+    held_granted (without_shelved o.slot shelf w) run at o.slot
+    ∙ ap (λ (os : List Owner). os ++ owner_of run (name_of o.slot at) ∷ []) (held_unshelved w run o.slot shelf)
 
 -- the owners but for what is given away
 abbrev pub held_without : Option Name → List Owner → List Owner
@@ -182,16 +191,18 @@ left_push (Some name) run at slot owners ne =
 given_slot_fetched : (w : World) (run at shelf : ℕ) (o : Owner) (given : Option Name) (now : Running) → IsOwned w
     → IsOwnGiven w run shelf given → IsNotGiven given at → IsGivenSlot (fetched o shelf run at (with_run w run now)) run given
 given_slot_fetched w run at shelf o None now owned own ne = tt
-given_slot_fetched w run at shelf o (Some name) now owned own ne = λ p among e. by p (Contains-push_cases (filter (stays_off o.slot shelf) w.owners) (owner_of run (name_of o.slot at)) p among) e where
-  by : (p : Owner) → Contains (filter (stays_off o.slot shelf) w.owners) p ⊎ (owner_of run (name_of o.slot at) ≡ p)
-      → p.holder ≡ Run run name.call → p.slot ≡ name.slot
-  by p (inl old) e = slot_of_call w run name p owned own.0 (Contains-filter (stays_off o.slot shelf) w.owners p old).0 e
-  by p (inr same) e = absurd (ne (sym (ap call_of (ap (λ (q : Owner). q.holder) same ∙ e))))
+given_slot_fetched w run at shelf o (Some name) now owned own ne =
+    λ p among e. by p (Contains-push_cases (filter (stays_off o.slot shelf) w.owners) (owner_of run (name_of o.slot at)) p among) e where
+      by : (p : Owner) → Contains (filter (stays_off o.slot shelf) w.owners) p ⊎ (owner_of run (name_of o.slot at) ≡ p)
+          → p.holder ≡ Run run name.call → p.slot ≡ name.slot
+      by p (inl old) e = slot_of_call w run name p owned own.0 (Contains-filter (stays_off o.slot shelf) w.owners p old).0 e
+      by p (inr same) e = absurd (ne (sym (ap call_of (ap (λ (q : Owner). q.holder) same ∙ e))))
 
 -- what a run holds that got what was on the shelf by this call
 pub held_exchanged : (w : World) (run at shelf : ℕ) (o : Owner) (given : Option Name) (now : Running) → IsOwned w
     → IsOwnGiven w run shelf given → IsNotGiven given at
-    → held_by (put_on given shelf run (fetched o shelf run at (with_run w run now))) run ≡ held_without given (held_by w run) ++ owner_of run (name_of o.slot at) ∷ []
+    → held_by (put_on given shelf run (fetched o shelf run at (with_run w run now))) run
+    ≡ held_without given (held_by w run) ++ owner_of run (name_of o.slot at) ∷ []
 held_exchanged w run at shelf o given now owned own ne =
     held_put (fetched o shelf run at (with_run w run now)) run shelf given (given_slot_fetched w run at shelf o given now owned own ne)
     ∙ ap (held_without given) (held_fetched (with_run w run now) run at shelf o)

@@ -1,6 +1,7 @@
 -- The next instruction of a sound run in its world: with an answer that fits what it asks it is legal, and the run goes on as it
 -- sees itself.
-use Rattle.std.proofs.Common.{◌≡◌, ◌≢◌, ℕ, ◌+◌, ◌<◌, ◌≤◌, Bool, true, false, arith, List, [], ◌∷◌, length, Option, Some, None, Result, Ok, Err, refl, sym, ap, ◌∙◌, subst, inl, inr, length-set}
+use Rattle.std.proofs.Common.{◌≡◌, ◌≢◌, ℕ, ◌+◌, ◌<◌, ◌≤◌, Bool, true, false, arith, List, [], ◌∷◌, length, Option, Some, None, Result, Ok, Err}
+use Rattle.std.proofs.Common.{refl, sym, ap, ◌∙◌, subst, inl, inr, length-set}
 use Rattle.std.specs.Prelude.{Contains, slice_get, ◌==◌, ◌&&◌, not, nat_le}
 use Rattle.std.proofs.lemmas.Bool.{cond_both}
 use Rattle.std.proofs.lemmas.Bool.Decides.{nat_tests}
@@ -12,11 +13,14 @@ use Rattle.ebpf_machine.specs.Values.{Frame}
 use Rattle.ebpf_machine.specs.Effect.{Act, Nothing, Write, Ask, Free, Exchange, Effect, Goes, Ends, Traps}
 use Rattle.ebpf_machine.specs.declared.answer.Answer.{Answer}
 use Rattle.ebpf_machine.specs.declared.answer.Answer.TheVariants.{Absent, Slot}
-use Rattle.ebpf_machine.specs.World.{Name, Kind, World, Running, Owner, Going, standing, shelved_in, environment, holds_of, held_by, is_home, is_in, kind_in, kinds_of, image_at, ledger_of}
+use Rattle.ebpf_machine.specs.World.{Name, Kind, World, Running, Owner, Going, standing, shelved_in, environment, holds_of, held_by, is_home, is_in}
+use Rattle.ebpf_machine.specs.World.{kind_in, kinds_of, image_at, ledger_of}
 use Rattle.ebpf_machine.specs.declared.answer.Answer.TheVariants as brought
-use Rattle.ebpf_machine.specs.Events.{under_way, Illegal, SlotNotHome, SlotOfAnotherKind, Asking, Unasked, OfNoKind, OfKind, AtShelf, put_on, fetched, with_run, exchanged, granted, done_by, effect_of_run, asking_of, answer_fault, exec}
+use Rattle.ebpf_machine.specs.Events.{under_way, Illegal, SlotNotHome, SlotOfAnotherKind, Asking, Unasked, OfNoKind, OfKind, AtShelf, put_on}
+use Rattle.ebpf_machine.specs.Events.{fetched, with_run, exchanged, granted, done_by, effect_of_run, asking_of, answer_fault, exec}
 use Rattle.ebpf_machine.specs.View.{ObjectView, RunView, object_in, view_of, view_in, slots_in, environment_of_view, effect_of_view, stepped}
-use Rattle.ebpf_machine.specs.Step.{IsEvent, Offers, MayAnswer, Served, Idle, Refused, Granted, Empty, Fetched, served_by, served_from, served_in, answer_for, result_of, asking_in, standing_then, standing_seen}
+use Rattle.ebpf_machine.specs.Step.{IsEvent, Offers, MayAnswer, Served, Idle, Refused, Granted, Empty, Fetched, served_by, served_from, served_in}
+use Rattle.ebpf_machine.specs.Step.{answer_for, result_of, asking_in, standing_then, standing_seen}
 use Rattle.ebpf_machine.specs.Advance.{slots_after}
 use Rattle.ebpf_machine.specs.Sound.{IsOwned, IsSound, AreSized}
 use Rattle.ebpf_machine.proofs.Lists.ListLemmas.{All-by_contains}
@@ -24,7 +28,8 @@ use Rattle.ebpf_machine.proofs.Rules.Next.{HasRoom}
 use Rattle.ebpf_machine.proofs.World.Owners.{held_owner}
 use Rattle.ebpf_machine.proofs.World.ObjectsFound.{own_found, objects_found}
 use Rattle.ebpf_machine.proofs.World.Exchanges.{IsOwnGiven}
-use Rattle.ebpf_machine.proofs.World.Acts.{act_seen, effect_seen, served_act, served_effect, IsGrantable, IsOwnAct, IsOwnEffect, own_view, own_slots, others_view, others_slots}
+use Rattle.ebpf_machine.proofs.World.Acts.{act_seen, effect_seen, served_act, served_effect, IsGrantable, IsOwnAct, IsOwnEffect, own_view}
+use Rattle.ebpf_machine.proofs.World.Acts.{own_slots, others_view, others_slots}
 use Rattle.ebpf_machine.proofs.World.Standing.{HasRoomFor, shelves_done, standing_alike}
 use Rattle.ebpf_machine.proofs.World.Owned.{IsForward, owned_done}
 use Rattle.ebpf_machine.proofs.World.Telling.{by_call}
@@ -60,7 +65,11 @@ record IsSteady (w after : World) : Type 0 where
 
 steady_granted : (w : World) (run : ℕ) (r : Running) (slot to kind : ℕ) (frame : Frame Name) → IsSteady w (granted slot w (under_way run r to frame) kind)
 steady_granted w run r slot to kind frame =
-    cond_both (nat_le r.subject.decl.held (holds_of w run)) _ _ (IsSteady w) (λ e. record { as_many = length-set w.runs run _; kinds = refl; ledgers = refl }) (λ e. record { as_many = length-set w.runs run _; kinds = refl; ledgers = refl })
+    cond_both (nat_le r.subject.decl.held (holds_of w run)) _ _ (IsSteady w) (λ e. record {
+      as_many = length-set w.runs run _;
+      kinds = refl;
+      ledgers = refl;
+    }) (λ e. record { as_many = length-set w.runs run _; kinds = refl; ledgers = refl })
 
 steady_put : (w v : World) (run shelf : ℕ) (given : Option Name) → IsSteady w v → IsSteady w (put_on given shelf run v)
 steady_put w v run shelf None same = same
@@ -72,8 +81,13 @@ steady_exchanged w run r shelf to given frame = by (standing w shelf) where
   by : (o : Option Owner) → IsSteady w (exchanged o w (under_way run r to frame) shelf given)
   by None = steady_put w (with_run w run _) run shelf given (record { as_many = length-set w.runs run _; kinds = refl; ledgers = refl })
   by (Some o) =
-      cond_both (nat_le r.subject.decl.held (holds_of (put_on given shelf run w) run)) _ _ (IsSteady w) (λ e. record { as_many = length-set w.runs run _; kinds = refl; ledgers = refl })
-      (λ e. steady_put w (fetched o shelf run r.pc (with_run w run _)) run shelf given (record { as_many = length-set w.runs run _; kinds = refl; ledgers = refl }))
+      cond_both (nat_le r.subject.decl.held (holds_of (put_on given shelf run w) run)) _ _ (IsSteady w) (λ e. record {
+        as_many = length-set w.runs run _;
+        kinds = refl;
+        ledgers = refl;
+      })
+      (λ e. steady_put w (fetched o shelf run r.pc (with_run w run _)) run shelf given
+      (record { as_many = length-set w.runs run _; kinds = refl; ledgers = refl }))
 
 steady_done : (w : World) (run : ℕ) (r : Running) (e : Effect Name) (answer : Answer) → IsSteady w (done_by e answer w run r)
 steady_done w run r (Ends n) answer = record { as_many = length-set w.runs run _; kinds = refl; ledgers = refl }
@@ -119,16 +133,21 @@ met w run r owned there = record {
 
 seen_effect : (w : World) (run : ℕ) (r : Running) → IsOwned w → slice_get w.runs run ≡ Some r
     → effect_seen (effect_of_run w run r) ≡ effect_of_view (view_of w run r)
-seen_effect w run r owned there = sym (effect_at-told by_call (insn_at r.subject.program r.pc) r.pc (environment w run r) (environment_of_view (view_of w run r)) r.frame (met w run r owned there))
+seen_effect w run r owned there =
+    sym (effect_at-told by_call (insn_at r.subject.program r.pc) r.pc (environment w run r) (environment_of_view (view_of w run r)) r.frame
+    (met w run r owned there))
 
 -- each object of a run has as many bytes as its kind says
 pub sized_in : (w : World) (run : ℕ) (r : Running) → IsOwned w → slice_get w.runs run ≡ Some r → AreSized (view_of w run r)
-sized_in w run r owned there = All-map IsSized (object_in w) (held_by w run) (All-by_contains (λ o. IsSized (object_in w o)) (held_by w run) (λ o among. sized o (held_owner w run o among).0)) where
-  IsSized : ObjectView → Type 0
-  IsSized o = length o.bytes ≡ length (image_at (kinds_of r.subject.rows) o.kind)
+sized_in w run r owned there =
+    All-map IsSized (object_in w) (held_by w run)
+    (All-by_contains (λ o. IsSized (object_in w o)) (held_by w run) (λ o among. sized o (held_owner w run o among).0)) where
+      IsSized : ObjectView → Type 0
+      IsSized o = length o.bytes ≡ length (image_at (kinds_of r.subject.rows) o.kind)
 
-  sized : (o : Owner) → Contains w.owners o → IsSized (object_in w o)
-  sized o among = owned.holders.sized o among ∙ ap (λ (kinds : List Kind). length (image_at kinds (kind_in w o.slot))) (sym (owned.runs.kinds_are run r there))
+      sized : (o : Owner) → Contains w.owners o → IsSized (object_in w o)
+      sized o among =
+          owned.holders.sized o among ∙ ap (λ (kinds : List Kind). length (image_at kinds (kind_in w o.slot))) (sym (owned.runs.kinds_are run r there))
 
 -- ---- the effect is the run's own, and leads forward
 
@@ -190,7 +209,9 @@ served_alike w (Exchange shelf given) answer = refl
 
 served_fits : (w : World) (run : ℕ) (r : Running) (e : Effect Name) (answer : Answer) → effect_of_run w run r ≡ e
     → IsOwnEffect w run answer e → served_to w r answer ≡ served_effect w e answer
-served_fits w run r (Goes act to frame) answer is own = ap (λ (asked : Asking). served_in w asked answer) (asked_goes (insn_at r.subject.program r.pc) r.pc (environment w run r) r.frame act to frame is) ∙ served_alike w act answer
+served_fits w run r (Goes act to frame) answer is own =
+    ap (λ (asked : Asking). served_in w asked answer) (asked_goes (insn_at r.subject.program r.pc) r.pc (environment w run r) r.frame act to frame is)
+    ∙ served_alike w act answer
 served_fits w run r (Ends n) answer is own =
     ap (λ (asked : Asking). served_in w asked answer) (asked_ends (insn_at r.subject.program r.pc) r.pc (environment w run r) r.frame n is)
 served_fits w run r (Traps trap) answer is own = absurd own
@@ -211,14 +232,15 @@ next_world w run r answer owned there sound going fine =
       done_by e answer w run r,
       record {
         legal = rw (there, going, fine) refl;
-        owned = owned_done w run r e answer owned there own.0 own.1;
+        owned = owned_done run r e answer owned there own.0 own.1;
         as_many = steady.as_many;
-        seen = own_view w run r e answer owned there own.0 ∙ rw (seen, going, served) refl;
-        slots = own_slots w run r e answer owned there own.0 ∙ rw (seen, served) refl;
-        others = λ other ne. others_view w run other r e answer owned own.0 ne;
-        others_slots = λ other ne. others_slots w run other r e answer owned own.0 ne;
+        seen = own_view run r e answer owned there own.0 ∙ rw (seen, going, served) refl;
+        slots = own_slots run r e answer owned there own.0 ∙ rw (seen, served) refl;
+        others = λ other ne. others_view run other r e answer owned own.0 ne;
+        others_slots = λ other ne. others_slots run other r e answer owned own.0 ne;
         shelves = shelves;
-        shelves_seen = λ shelf. shelves shelf ∙ standing_alike w run e answer owned own.0 shelf ∙ ap (λ (does : Effect ℕ). standing_seen w (slots_in w run) does shelf) seen;
+        shelves_seen = λ shelf. shelves shelf ∙ standing_alike w run e answer owned own.0 shelf
+            ∙ ap (λ (does : Effect ℕ). standing_seen w (slots_in w run) does shelf) seen;
         kinds = steady.kinds;
         ledgers = steady.ledgers;
       },
@@ -250,11 +272,13 @@ pub step_event : (v : RunView) (served : Served) (held : List Name) → IsSound 
 step_event v served held sound going w after run owned shows slots serves does =
     let r = shown_run w run v shows in
     let goes : r.0.status ≡ Going = ap (λ (u : RunView). u.status) r.2 ∙ going in
-    let next = next_world w run r.0 (answer_for served) owned r.1 (subst IsSound (sym r.2) sound) goes (legal_answer w after run r.0 (answer_for served) r.1 goes does) in
+    let next = next_world w run r.0 (answer_for served) owned r.1 (subst IsSound (sym r.2) sound) goes
+    (legal_answer w after run r.0 (answer_for served) r.1 goes does) in
     let same : next.0 ≡ after = ok_same next.0 after (exec w run (answer_for served)) next.1.legal does in
     let asked : asking_of w r.0 ≡ asking_in v = asking_seen w run r.0 owned r.1 ∙ ap asking_in r.2 in
     let is : served_to w r.0 (answer_for served) ≡ served = ap (λ (a : Asking). served_in w a (answer_for served)) asked ∙ serves in
-    let seen : view_in next.0 run ≡ Some (stepped (result_of served) v) = next.1.seen ∙ ap (λ (s : Served). Some (stepped (result_of s) (view_of w run r.0))) is ∙ ap (λ (u : RunView). Some (stepped (result_of served) u)) r.2 in
+    let seen : view_in next.0 run ≡ Some (stepped (result_of served) v) =
+    next.1.seen ∙ ap (λ (s : Served). Some (stepped (result_of s) (view_of w run r.0))) is ∙ ap (λ (u : RunView). Some (stepped (result_of served) u)) r.2 in
     let now : slots_in next.0 run ≡ slots_after (effect_of_view v) served v.subject.decl.held v.pc held =
     next.1.slots
     ∙ ap (λ (s : Served). slots_after (effect_of_view (view_of w run r.0)) s r.0.subject.decl.held r.0.pc (slots_in w run)) is
@@ -264,7 +288,9 @@ step_event v served held sound going w after run owned shows slots serves does =
     next.1.shelves_seen shelf
     ∙ ap (λ (u : RunView). standing_seen w (slots_in w run) (effect_of_view u) shelf) r.2
     ∙ ap (λ (names : List Name). standing_seen w names (effect_of_view v) shelf) slots in
-    subst (λ (u : World). (view_in u run ≡ Some (stepped (result_of served) v)) × (slots_in u run ≡ slots_after (effect_of_view v) served v.subject.decl.held v.pc held) × ((shelf : ℕ) → shelved_in u shelf ≡ standing_seen w held (effect_of_view v) shelf)) same (seen, now, shelves)
+    subst (λ (u : World). (view_in u run ≡ Some (stepped (result_of served) v)) × (slots_in u run
+    ≡ slots_after (effect_of_view v) served v.subject.decl.held v.pc held) × ((shelf : ℕ)
+    → shelved_in u shelf ≡ standing_seen w held (effect_of_view v) shelf)) same (seen, now, shelves)
 
 -- where a store may answer so, the event with this answer serves so, if what is on the shelf is what the store says
 pub may_serve : (w : World) (may : Offers) (at : ℕ) (asked : Asking) (served : Served) → MayAnswer may at asked served

@@ -17,7 +17,8 @@ use Rattle.ebpf_machine.specs.Step.{result_of, asking_in}
 use Rattle.ebpf_machine.specs.Sound.{IsOwned, IsSound}
 use Rattle.ebpf_machine.proofs.World.Asking.{AsksNew, AsksShelf, Asks, ForNothing, ForObject, ForShelf, asks_of, asking_seen}
 use Rattle.ebpf_machine.proofs.World.NewSlots.{IsNew, joined_home, joined_in, joined_cases, owned_joined, view_joined}
-use Rattle.ebpf_machine.proofs.World.Shelving.{IsRoom, owned_cleared, view_cleared, cleared_off, nothing_standing, cleared_ledgers, bytes_long, owned_shelved, view_shelved, standing_new, bytes_new}
+use Rattle.ebpf_machine.proofs.World.Shelving.{IsRoom, owned_cleared, view_cleared, cleared_off, nothing_standing, cleared_ledgers, bytes_long}
+use Rattle.ebpf_machine.proofs.World.Shelving.{owned_shelved, view_shelved, standing_new, bytes_new}
 use Rattle.ebpf_machine.proofs.World.Replies.{heard_by_new, heard_by_swap, stepped_any, replies_kept, replies_added, replies_swapped}
 use Rattle.ebpf_machine.proofs.World.Steps.{next_of}
 use Rattle.ebpf_machine.proofs.World.Execs.{served_to, kinds_alike, sized_in}
@@ -101,7 +102,8 @@ one_more : (a : Alone) (h : IsLone a) (told : CallResult) (kind : ℕ) → h.run
     → length (stepped told (view_of a.world 0 h.run)).replies ≡ length h.run.calls + 1
 one_more a h told kind going new =
     let v = view_of a.world 0 h.run in
-    ap (λ (rs : Replies). length rs.answers) (replies_added v told kind going new) ∙ length_push v.replies (reply_in (heard_by_new told)) ∙ ap (λ (n : ℕ). n + 1) (length-map h.run.calls (λ (t : AnsweredCall). t.reply))
+    ap (λ (rs : Replies). length rs.answers) (replies_added v told kind going new) ∙ length_push v.replies (reply_in (heard_by_new told))
+    ∙ ap (λ (n : ℕ). n + 1) (length-map h.run.calls (λ (t : AnsweredCall). t.reply))
 
 fed_null : (a : Alone) (h : IsLone a) (kind : ℕ) → h.run.status ≡ Going → asking_of a.world h.run ≡ OfKind kind
     → AsksNew (view_of a.world 0 h.run) kind → IsFed a.world h.run view.Null (record { world = a.world; answer = Null })
@@ -121,7 +123,10 @@ fed_slot : (a : Alone) (h : IsLone a) (kind : ℕ) → h.run.status ≡ Going �
 fed_slot a h kind going asked new =
     let w = a.world in
     let slot = length h.run.calls in
-    let fresh : IsNew w kind slot = record { kind_is = omega (arith, kinds_alike w 0 h.run h.owned (there_is a h), new.kind_is); fresh = false_from_ne_true (is_in_ledger w slot) (λ there. absurd (omega (arith, h.below slot there))) } in
+    let fresh : IsNew w kind slot = record {
+      kind_is = omega (arith, kinds_alike w 0 h.run h.owned (there_is a h), new.kind_is);
+      fresh = false_from_ne_true (is_in_ledger w slot) (λ there. absurd (omega (arith, h.below slot there)));
+    } in
     let home = joined_home w kind slot h.owned fresh in
     let its = joined_in w kind slot h.owned fresh in
     record {
@@ -144,7 +149,8 @@ one_swapped_more : (a : Alone) (h : IsLone a) (told : CallResult) (shelf : ℕ) 
     → AsksShelf (view_of a.world 0 h.run) shelf → length (stepped told (view_of a.world 0 h.run)).replies ≡ length h.run.calls + 1
 one_swapped_more a h told shelf going asks =
     let v = view_of a.world 0 h.run in
-    ap (λ (rs : Replies). length rs.answers) (replies_swapped v told shelf going asks) ∙ length_push v.replies (reply_in (heard_by_swap told)) ∙ ap (λ (n : ℕ). n + 1) (length-map h.run.calls (λ (t : AnsweredCall). t.reply))
+    ap (λ (rs : Replies). length rs.answers) (replies_swapped v told shelf going asks) ∙ length_push v.replies (reply_in (heard_by_swap told))
+    ∙ ap (λ (n : ℕ). n + 1) (length-map h.run.calls (λ (t : AnsweredCall). t.reply))
 
 cleared_kinds : (w : World) (shelf : ℕ) → (cleared shelf w).kinds ≡ w.kinds
 cleared_kinds w shelf = by (standing w shelf) where
@@ -205,8 +211,10 @@ fed_shelved a h shelf bytes long going asked asks = record {
       owned = owned_cleared w shelf h.owned;
       off = λ p among. cleared_off w shelf p h.owned among;
       new = record {
-        kind_is = let few = asks.shelf_is in let many = kinds_alike w 0 h.run h.owned (there_is a h) in let same = ap (λ (ks : List Kind). length ks) (cleared_kinds w shelf) in omega (arith, few, many, same);
-        fresh = false_from_ne_true (is_in_ledger (cleared shelf w) slot) (λ there. absurd (omega (arith, h.below slot (cleared_ledgers w shelf slot h.owned there))));
+        kind_is = let few = asks.shelf_is in let many = kinds_alike w 0 h.run h.owned (there_is a h) in let same = ap (λ (ks : List Kind). length ks)
+            (cleared_kinds w shelf) in omega (arith, few, many, same);
+        fresh = false_from_ne_true (is_in_ledger (cleared shelf w) slot)
+            (λ there. absurd (omega (arith, h.below slot (cleared_ledgers w shelf slot h.owned there))));
       };
     }
 

@@ -50,7 +50,8 @@ module _ {H : Type 0} (bytes : H → List ℕ) (slot_of : H → ℕ) (w : World)
 
       by : (t : Bool)
           → shelved_given w (option_map name_kept (find (λ x. x.call == call) held)) ≡ option_map (λ x. as_kept x.object) (find (λ x. x.call == call) held)
-          → shelved_given w (option_map name_kept (cond t (Some h) (find (λ x. x.call == call) held))) ≡ option_map (λ x. as_kept x.object) (cond t (Some h) (find (λ x. x.call == call) held))
+          → shelved_given w (option_map name_kept (cond t (Some h) (find (λ x. x.call == call) held)))
+          ≡ option_map (λ x. as_kept x.object) (cond t (Some h) (find (λ x. x.call == call) held))
       by true rest = ap (λ (b : List ℕ). Some (record { slot = slot_of h.object; bytes = b })) same
       by false rest = rest
 
@@ -63,7 +64,8 @@ module _ {H : Type 0} (bytes : H → List ℕ) (slot_of : H → ℕ) (w : World)
         ap (shelved_given w) (find-map (λ (n : Name). n.call == call) name_kept r.held) ∙ found_kept (held_by w run) r.held call objects slots
 
     acted_kept : (act : Act ℕ) (shelf : ℕ) (what : Option Shelved)
-        → shelf_acted (λ given. shelved_given w (name_given (slots_kept slot_of r.held) given)) act shelf what ≡ shelf_acted (shelved_from as_kept r.held) act shelf what
+        → shelf_acted (λ given. shelved_given w (name_given (slots_kept slot_of r.held) given)) act shelf what
+        ≡ shelf_acted (shelved_from as_kept r.held) act shelf what
     acted_kept Nothing shelf what = refl
     acted_kept (Write name at now) shelf what = refl
     acted_kept (Ask kind) shelf what = refl
@@ -84,6 +86,7 @@ shelved_joined w kind slot shelf owned new = by (standing w shelf) (stands w she
   by : (f : Option Owner) → IsFound (λ (o : Owner). is_shelf shelf o.holder) w.owners f
       → option_map (λ (o : Owner). shelved_at (with_slot_joined kind slot w) o.slot) f ≡ option_map (λ (o : Owner). shelved_at w o.slot) f
   by None none = refl
-  by (Some o) found = ap (λ (t : Bool). Some (record { slot = o.slot; bytes = cond t (image_at w.kinds kind) (w.bytes o.slot) })) (ne_eqb o.slot slot other) where
-    other : o.slot ≢ slot
-    other same = let there = ap (is_in_ledger w) (sym same) ∙ owned_there w o owned found.0 in let fresh = new.fresh in absurd (cc)
+  by (Some o) found =
+      ap (λ (t : Bool). Some (record { slot = o.slot; bytes = cond t (image_at w.kinds kind) (w.bytes o.slot) })) (ne_eqb o.slot slot other) where
+        other : o.slot ≢ slot
+        other same = let there = ap (is_in_ledger w) (sym same) ∙ owned_there w o owned found.0 in let fresh = new.fresh in absurd (cc)

@@ -1,11 +1,13 @@
 -- One ledger changes at a slot that nobody owns, which joins it or leaves it: of every other slot the world says what it said, so
 -- owners, ledgers and pointers still fit together, and runs see what they saw.
-use Rattle.std.proofs.Common.{◌≡◌, ◌≢◌, ◌⊎◌, inl, inr, ℕ, zero, suc, ◌+◌, ◌≤◌, Bool, true, false, cond, not, ◌||◌, List, [], ◌∷◌, length, count_by, get_or, set, length-set, refl, sym, ap, ◌∙◌, subst, arith}
+use Rattle.std.proofs.Common.{◌≡◌, ◌≢◌, ◌⊎◌, inl, inr, ℕ, zero, suc, ◌+◌, ◌≤◌, Bool, true, false, cond, not, ◌||◌, List, [], ◌∷◌, length, count_by}
+use Rattle.std.proofs.Common.{get_or, set, length-set, refl, sym, ap, ◌∙◌, subst, arith}
 use Rattle.std.specs.Prelude.{Contains, ◌==◌}
 use Rattle.std.specs.List.{list_any}
 use Rattle.std.proofs.lemmas.Bool.{cases_eq, eq-eqb, and_parts, and_from}
 use Rattle.std.proofs.lemmas.List.Sums.{sum_by-cons}
-use Rattle.ebpf_machine.specs.World.{World, Running, Owner, is_in, is_in_ledger, is_owned, is_home, held_by, ledger_of, kind_from, kind_in, image_at, IsOfKind}
+use Rattle.ebpf_machine.specs.World.{World, Running, Owner, is_in, is_in_ledger, is_owned, is_home, held_by, ledger_of, kind_from, kind_in}
+use Rattle.ebpf_machine.specs.World.{image_at, IsOfKind}
 use Rattle.ebpf_machine.specs.Events.{with_ledger}
 use Rattle.ebpf_machine.specs.View.{ObjectView, object_in, view_of}
 use Rattle.ebpf_machine.specs.Sound.{IsOwned}
@@ -111,16 +113,19 @@ owned_changed w kind slot slots bytes owned change = record {
     long : (o : Owner) → Contains w.owners o → length (bytes o.slot) ≡ length (image_at w.kinds (kind_in after o.slot))
     long o among =
         let same = change.others_bytes o.slot (owners_apart w slot o change.nobodys among) in
-        ap (λ (bs : List ℕ). length bs) same ∙ owned.holders.sized o among ∙ ap (λ (k : ℕ). length (image_at w.kinds k)) (sym (other_kind w kind slots o.slot (other o among)))
+        ap (λ (bs : List ℕ). length bs) same ∙ owned.holders.sized o among
+        ∙ ap (λ (k : ℕ). length (image_at w.kinds k)) (sym (other_kind w kind slots o.slot (other o among)))
 
 -- ---- what a run sees
 
 pub view_changed : (w : World) (run kind slot : ℕ) (slots : List ℕ) (bytes : ℕ → List ℕ) (r : Running)
     → IsChange w kind slot slots bytes → view_of (changed kind slots bytes w) run r ≡ view_of w run r
-view_changed w run kind slot slots bytes r change = ap (λ (objects : List ObjectView). record (view_of w run r) { objects = objects }) (map_agree (object_in (changed kind slots bytes w)) (object_in w) (held_by w run) (λ o among. alike o (held_owner w run o among).0)) where
-  alike : (o : Owner) → Contains w.owners o → object_in (changed kind slots bytes w) o ≡ object_in w o
-  alike o among =
-      let ne = owners_apart w slot o change.nobodys among in
-      let kinds = other_kind w kind slots o.slot (change.others o.slot ne) in
-      let same = change.others_bytes o.slot ne in
-      λ i. record (object_in w o) { kind = kinds i; bytes = same i }
+view_changed w run kind slot slots bytes r change =
+    ap (λ (objects : List ObjectView). record (view_of w run r) { objects = objects })
+    (map_agree (object_in (changed kind slots bytes w)) (object_in w) (held_by w run) (λ o among. alike o (held_owner w run o among).0)) where
+      alike : (o : Owner) → Contains w.owners o → object_in (changed kind slots bytes w) o ≡ object_in w o
+      alike o among =
+          let ne = owners_apart w slot o change.nobodys among in
+          let kinds = other_kind w kind slots o.slot (change.others o.slot ne) in
+          let same = change.others_bytes o.slot ne in
+          λ i. record (object_in w o) { kind = kinds i; bytes = same i }

@@ -1,5 +1,6 @@
 -- The run alone goes on as the run does, and stays once it has ended.
-use Rattle.std.proofs.Common.{◌≡◌, ℕ, zero, suc, ◌+◌, ◌-◌, ◌<◌, ◌≤◌, max, false, List, [], ◌∷◌, ◌++◌, length, map, Option, Some, None, Ok, refl, sym, ap, ◌∙◌, subst, append_assoc, arith, add-one}
+use Rattle.std.proofs.Common.{◌≡◌, ℕ, zero, suc, ◌+◌, ◌-◌, ◌<◌, ◌≤◌, max, false, List, [], ◌∷◌, ◌++◌, length, map, Option, Some, None, Ok, refl}
+use Rattle.std.proofs.Common.{sym, ap, ◌∙◌, subst, append_assoc, arith, add-one}
 use Rattle.std.specs.Prelude.{slice_get, nat_le, take, drop}
 use Rattle.std.specs.List.{list_any}
 use Rattle.std.proofs.Math.Seq.{drop-append_seam, take-append_seam}
@@ -14,9 +15,11 @@ use Rattle.ebpf_machine.specs.declared.report.Reply.TheVariants as reply
 use Rattle.ebpf_machine.specs.Effect.{Nothing, Write, Ask, Free, Exchange, Effect, Goes, Ends, Traps}
 use Rattle.ebpf_machine.specs.declared.answer.Answer.{Answer}
 use Rattle.ebpf_machine.specs.declared.answer.Answer.TheVariants.{Absent, Null, Slot}
-use Rattle.ebpf_machine.specs.World.{World, Running, Kind, AnsweredCall, Owner, Status, Going, Exited, Trapped, standing, is_shelf, is_in, held_by, holds_of, first_run, image_at, kinds_of}
+use Rattle.ebpf_machine.specs.World.{World, Running, Kind, AnsweredCall, Owner, Status, Going, Exited, Trapped, standing, is_shelf, is_in, held_by}
+use Rattle.ebpf_machine.specs.World.{holds_of, first_run, image_at, kinds_of}
 use Rattle.ebpf_machine.specs.Events.{Asking, Unasked, OfNoKind, OfKind, AtShelf, asking_of, exec}
-use Rattle.ebpf_machine.specs.Alone.{Alone, Fed, cleared, bytes_for, shelved, fed, fed_to, advanced, alone_first, alone_by, alone_next, alone_after, outcome_of, outcome_alone, Replies, replies_from}
+use Rattle.ebpf_machine.specs.Alone.{Alone, Fed, cleared, bytes_for, shelved, fed, fed_to, advanced, alone_first, alone_by, alone_next, alone_after}
+use Rattle.ebpf_machine.specs.Alone.{outcome_of, outcome_alone, Replies, replies_from}
 use Rattle.ebpf_machine.specs.Replies.{replies_of, more_than}
 use Rattle.ebpf_machine.specs.Whole.{told_to, told_alone}
 use Rattle.ebpf_machine.specs.View as view
@@ -28,10 +31,12 @@ use Rattle.ebpf_machine.proofs.Lists.ListLemmas.{IsFound}
 use Rattle.ebpf_machine.proofs.World.Exchanges.{stands, standing_there, kind_on_shelf}
 use Rattle.ebpf_machine.proofs.World.Owned.{owned_first}
 use Rattle.ebpf_machine.proofs.World.Shelving.{bytes_long}
-use Rattle.ebpf_machine.proofs.World.Replies.{heard_by_new, heard_by_swap, bytes_told, one_told, one_swapped, stepped_going, stepped_any, stepped_heard, shelf_heard, replies_kept, replies_added, replies_swapped}
+use Rattle.ebpf_machine.proofs.World.Replies.{heard_by_new, heard_by_swap, bytes_told, one_told, one_swapped, stepped_going, stepped_any}
+use Rattle.ebpf_machine.proofs.World.Replies.{stepped_heard, shelf_heard, replies_kept, replies_added, replies_swapped}
 use Rattle.ebpf_machine.proofs.World.Steps.{sound_stepped, bounded, first_sound}
 use Rattle.ebpf_machine.proofs.World.Execs.{served_to, next_world, sized_in, shown_run}
-use Rattle.ebpf_machine.proofs.World.Feeding.{IsLone, only_run, there_is, used, used_kept, used_at_shelf, used_by, cleared_runs, asks, asking_is, bytes_left, told_now, fed_is}
+use Rattle.ebpf_machine.proofs.World.Feeding.{IsLone, only_run, there_is, used, used_kept, used_at_shelf, used_by, cleared_runs, asks, asking_is}
+use Rattle.ebpf_machine.proofs.World.Feeding.{bytes_left, told_now, fed_is}
 
 -- ---- what an instruction leaves of a view
 
@@ -50,12 +55,14 @@ one_by v view.Null (Goes (Exchange shelf given) to after) = record { subject = r
 one_by v view.Empty (Goes (Exchange shelf given) to after) = record { subject = refl; context = refl; executed = refl }
 one_by v view.Granted (Goes (Exchange shelf given) to after) = record { subject = refl; context = refl; executed = refl }
 one_by v (view.Shelved bytes) (Goes (Exchange shelf given) to after) =
-    cond_both (nat_le v.subject.decl.held (length (without_given given v.objects))) _ _ (IsOneOn v) (λ e. record { subject = refl; context = refl; executed = refl }) (λ e. record { subject = refl; context = refl; executed = refl })
+    cond_both (nat_le v.subject.decl.held (length (without_given given v.objects))) _ _ (IsOneOn v)
+    (λ e. record { subject = refl; context = refl; executed = refl }) (λ e. record { subject = refl; context = refl; executed = refl })
 one_by v view.Null (Goes (Ask kind) to after) = record { subject = refl; context = refl; executed = refl }
 one_by v view.Empty (Goes (Ask kind) to after) = record { subject = refl; context = refl; executed = refl }
 one_by v (view.Shelved bytes) (Goes (Ask kind) to after) = record { subject = refl; context = refl; executed = refl }
 one_by v view.Granted (Goes (Ask kind) to after) =
-    cond_both (nat_le v.subject.decl.held (length v.objects)) _ _ (IsOneOn v) (λ e. record { subject = refl; context = refl; executed = refl }) (λ e. record { subject = refl; context = refl; executed = refl })
+    cond_both (nat_le v.subject.decl.held (length v.objects)) _ _ (IsOneOn v) (λ e. record { subject = refl; context = refl; executed = refl })
+    (λ e. record { subject = refl; context = refl; executed = refl })
 
 pub one_on : (v : RunView) (reply : CallResult) → v.status ≡ Going → IsOneOn v (stepped reply v)
 one_on v reply going = subst (IsOneOn v) (sym (stepped_going v reply going)) (one_by v reply (effect_of_view v))
@@ -87,7 +94,8 @@ next_alone a replies h going =
     next.1.seen ∙ ap (λ (u : RunView). Some (stepped (result_of (served_to f.world h.run f.answer)) u)) is.seen ∙ ap Some is.steps in
     let r = shown_run next.0 0 (stepped told v) seen in
     let one : length next.0.runs ≡ 1 = next.1.as_many ∙ ap (λ (rs : List Running). length rs) (is.runs ∙ h.only) in
-    let as_told : length r.0.calls ≡ length (stepped told v).replies = sym (length-map r.0.calls (λ (t : AnsweredCall). t.reply)) ∙ ap (λ (u : RunView). length u.replies) r.2 in (
+    let as_told : length r.0.calls ≡ length (stepped told v).replies =
+    sym (length-map r.0.calls (λ (t : AnsweredCall). t.reply)) ∙ ap (λ (u : RunView). length u.replies) r.2 in (
       next.0,
       record {
         is = advanced_to a replies h.run next.0 (there_is a h) next.1.legal;
@@ -97,7 +105,12 @@ next_alone a replies h going =
           only = only_run next.0.runs r.0 one r.1;
           owned = next.1.owned;
           sound = subst IsSound (sym r.2) (sound_stepped v told h.sound (sized_in a.world 0 h.run h.owned (there_is a h)) going);
-          below = λ slot among. omega (arith, as_told, is.below slot (ap (λ (ledgers : List (List ℕ)). list_any (is_in slot) ledgers) (sym next.1.ledgers) ∙ among));
+          below = λ slot among. omega (
+            arith,
+            as_told,
+            is.below slot
+                (ap (λ (ledgers : List (List ℕ)). list_any (is_in slot) ledgers) (sym next.1.ledgers) ∙ among),
+          );
         };
       },
     )
@@ -125,7 +138,9 @@ ended_stays w answer r n a there ended = rw (there, ended) refl
 pub ended_next : (a : Alone) (replies : Replies) (h : IsLone a) (n : ℕ) → h.run.status ≡ Exited n → alone_next replies a ≡ a
 ended_next a replies h n ended =
     let f = fed_to a.world h.run replies in
-    let same : f.world.runs ≡ a.world.runs = fed_runs (asking_of a.world h.run) (slice_get replies.answers (length h.run.calls)) (drop (length h.run.taken) replies.taken) (length h.run.calls) a.world in
+    let same : f.world.runs ≡ a.world.runs =
+    fed_runs (asking_of a.world h.run) (slice_get replies.answers (length h.run.calls)) (drop (length h.run.taken) replies.taken)
+    (length h.run.calls) a.world in
     let there : slice_get f.world.runs 0 ≡ Some h.run = ap (λ (rs : List Running). slice_get rs 0) same ∙ there_is a h in
     rw (there_is a h) (ended_stays f.world f.answer h.run n a there ended)
 
@@ -191,7 +206,11 @@ pub record IsWithin (told replies : Replies) : Type 0 where
   pub taken : length told.taken ≤ length replies.taken
 
 within_less : (told more replies : Replies) → IsWithin (more_than told more) replies → IsWithin told replies
-within_less told more replies h = record { answers = omega (arith, h.answers, length-append told.answers more.answers); taken = omega (arith, h.taken, length-append told.taken more.taken) }
+within_less told more replies h =
+    record {
+      answers = omega (arith, h.answers, length-append told.answers more.answers);
+      taken = omega (arith, h.taken, length-append told.taken more.taken);
+    }
 
 -- what is fed to a run is all that it has of the replies
 fed_alike : (a : Alone) (h : IsLone a) (replies others : Replies) → fed_to a.world h.run replies ≡ fed_to a.world h.run others
@@ -241,7 +260,10 @@ fed_at_shelf asked shelf o n i taken more w is few = rw is (by o few) where
   by (Some reply.Empty) few = refl
   by (Some reply.Shelf) few =
       let enough : n + length (image_at w.kinds shelf) ≤ length taken = omega (arith, few, bytes_long w.kinds shelf (drop n taken)) in
-      ap (λ (bytes : List ℕ). let f : Fed = record { world = shelved shelf i bytes (cleared shelf w); answer = Absent } in f) (bytes_unread w.kinds shelf n taken more enough)
+      ap (λ (bytes : List ℕ). let f : Fed = record {
+        world = shelved shelf i bytes (cleared shelf w);
+        answer = Absent;
+      } in f) (bytes_unread w.kinds shelf n taken more enough)
 
 -- replies after those that it was answered are not read
 record IsUnread (a : Alone) (replies more : Replies) : Type 0 where
@@ -278,15 +300,19 @@ unread_next a replies more h going fits = by (asks a h going) where
 
   by : Asks v → IsUnread a replies more
   by (ForNothing unasked) = record {
-    within = subst (λ (rs : Replies). IsWithin rs replies) (told_next a replies h going ∙ replies_kept v (told_now a h.run replies) going unasked ∙ sym (told_is a h)) fits;
-    same = fed_alike a h (more_than replies more) replies (fed_unasked (asking_of a.world h.run) (slice_get (replies.answers ++ more.answers) i) (slice_get replies.answers i) (drop (length h.run.taken) (replies.taken ++ more.taken)) (drop (length h.run.taken) replies.taken) i a.world (asking_is a h ∙ unasked));
+    within = subst (λ (rs : Replies). IsWithin rs replies)
+        (told_next a replies h going ∙ replies_kept v (told_now a h.run replies) going unasked ∙ sym (told_is a h)) fits;
+    same = fed_alike a h (more_than replies more) replies
+        (fed_unasked (asking_of a.world h.run) (slice_get (replies.answers ++ more.answers) i) (slice_get replies.answers i)
+        (drop (length h.run.taken) (replies.taken ++ more.taken)) (drop (length h.run.taken) replies.taken) i a.world (asking_is a h ∙ unasked));
   }
   by (ForObject kind asked new) =
       let added = replies_added v (told_now a h.run replies) kind going new in
       record {
         within = before (one_told (told_now a h.run replies)) added;
         same = fed_alike a h (more_than replies more) replies
-            (ap (λ (o : Option Reply). fed (asking_of a.world h.run) o (drop (length h.run.taken) (replies.taken ++ more.taken)) i a.world) (same_reply (one (one_told (told_now a h.run replies)) added refl))
+            (ap (λ (o : Option Reply). fed (asking_of a.world h.run) o (drop (length h.run.taken) (replies.taken ++ more.taken)) i a.world)
+            (same_reply (one (one_told (told_now a h.run replies)) added refl))
             ∙ fed_new (asking_of a.world h.run) kind (slice_get replies.answers i) _ _ i a.world (asking_is a h ∙ asked));
       }
   by (ForShelf shelf asked new) =
@@ -299,8 +325,10 @@ unread_next a replies more h going fits = by (asks a h going) where
       record {
         within = before (one_swapped told) added;
         same = fed_alike a h (more_than replies more) replies
-            (ap (λ (o : Option Reply). fed (asking_of a.world h.run) o (drop (length h.run.taken) (replies.taken ++ more.taken)) i a.world) (same_reply (one (one_swapped told) added refl))
-            ∙ fed_at_shelf (asking_of a.world h.run) shelf (slice_get replies.answers i) (length h.run.taken) i replies.taken more.taken a.world (asking_is a h ∙ asked) (subst (λ (t : CallResult). length h.run.taken + length (bytes_told t) ≤ length replies.taken) is few));
+            (ap (λ (o : Option Reply). fed (asking_of a.world h.run) o (drop (length h.run.taken) (replies.taken ++ more.taken)) i a.world)
+            (same_reply (one (one_swapped told) added refl))
+            ∙ fed_at_shelf (asking_of a.world h.run) shelf (slice_get replies.answers i) (length h.run.taken) i replies.taken more.taken a.world
+            (asking_is a h ∙ asked) (subst (λ (t : CallResult). length h.run.taken + length (bytes_told t) ≤ length replies.taken) is few));
       }
 
 after_unread : (n : ℕ) (subject : Subject) (context : List ℕ) (replies more : Replies) → IsAccepted subject
@@ -308,21 +336,22 @@ after_unread : (n : ℕ) (subject : Subject) (context : List ℕ) (replies more 
     → alone_after n subject context (more_than replies more) ≡ alone_after n subject context replies
 unfolding alone_after
 after_unread zero subject context replies more accepted long fits = refl
-after_unread (suc n) subject context replies more accepted long fits = by_status h.run.status refl (λ few. after_unread n subject context replies more accepted long few) where
-  a : Alone
-  a = alone_after n subject context replies
+after_unread (suc n) subject context replies more accepted long fits =
+    by_status h.run.status refl (λ few. after_unread n subject context replies more accepted long few) where
+      a : Alone
+      a = alone_after n subject context replies
 
-  h : IsLone a
-  h = lone_after n subject context replies accepted long
+      h : IsLone a
+      h = lone_after n subject context replies accepted long
 
-  by_status : (s : Status) → h.run.status ≡ s
-      → (IsWithin (told_of a) replies → alone_after n subject context (more_than replies more) ≡ a)
-      → alone_next (more_than replies more) (alone_after n subject context (more_than replies more)) ≡ alone_next replies a
-  by_status Going e before = let u = unread_next a replies more h e fits in ap (alone_next (more_than replies more)) (before u.within) ∙ u.same
-  by_status (Exited m) e before =
-      let few = subst (λ (b : Alone). IsWithin (told_of b) replies) (ended_next a replies h m e) fits in
-      ap (alone_next (more_than replies more)) (before few) ∙ ended_next a (more_than replies more) h m e ∙ sym (ended_next a replies h m e)
-  by_status (Trapped trap) e before = absurd (subst (λ (s : Status). IsWellStated s (view_of a.world 0 h.run)) e h.sound.stated)
+      by_status : (s : Status) → h.run.status ≡ s
+          → (IsWithin (told_of a) replies → alone_after n subject context (more_than replies more) ≡ a)
+          → alone_next (more_than replies more) (alone_after n subject context (more_than replies more)) ≡ alone_next replies a
+      by_status Going e before = let u = unread_next a replies more h e fits in ap (alone_next (more_than replies more)) (before u.within) ∙ u.same
+      by_status (Exited m) e before =
+          let few = subst (λ (b : Alone). IsWithin (told_of b) replies) (ended_next a replies h m e) fits in
+          ap (alone_next (more_than replies more)) (before few) ∙ ended_next a (more_than replies more) h m e ∙ sym (ended_next a replies h m e)
+      by_status (Trapped trap) e before = absurd (subst (λ (s : Status). IsWellStated s (view_of a.world 0 h.run)) e h.sound.stated)
 
 -- ---- a run that is where the run alone is
 
@@ -354,7 +383,9 @@ all_within v alone = subst (λ (rs : Replies). IsWithin rs (replies_of v)) (sym 
 -- replies after those of the run change nothing of where it is
 pub alone_more : (v : RunView) (more : Replies) → IsSound v → IsAlone v
     → view_in (alone_after v.executed v.subject v.context (more_than (replies_of v) more)).world 0 ≡ Some v
-alone_more v more sound alone = ap (λ (a : Alone). view_in a.world 0) (after_unread v.executed v.subject v.context (replies_of v) more sound.accepted sound.context (all_within v alone)) ∙ alone
+alone_more v more sound alone =
+    ap (λ (a : Alone). view_in a.world 0)
+    (after_unread v.executed v.subject v.context (replies_of v) more sound.accepted sound.context (all_within v alone)) ∙ alone
 
 -- what an event serves fits its shelf
 pub served_fits_shelf : (w : World) (v : RunView) (answer : Answer) → IsOwned w → kinds_of v.subject.rows ≡ w.kinds
@@ -386,10 +417,12 @@ served_fits_shelf w v answer owned kinds = by (asking_in v) refl where
 
 -- after one instruction more, with one reply more where it asks for an object
 record IsSteppedAlone (v : RunView) (told : CallResult) (world : World) : Type 0 where
-  is : alone_after (v.executed + 1) v.subject v.context (replies_of (stepped told v)) ≡ peaked (alone_after v.executed v.subject v.context (replies_of v)) world
+  is : alone_after (v.executed + 1) v.subject v.context (replies_of (stepped told v))
+      ≡ peaked (alone_after v.executed v.subject v.context (replies_of v)) world
   seen : view_in world 0 ≡ Some (stepped told v)
 
-stepped_alone : (v : RunView) (told : CallResult) → IsSound v → IsAlone v → v.status ≡ Going → FitsShelf v told → (world : World) × IsSteppedAlone v told world
+stepped_alone : (v : RunView) (told : CallResult) → IsSound v → IsAlone v → v.status ≡ Going → FitsShelf v told
+    → (world : World) × IsSteppedAlone v told world
 stepped_alone v told sound alone going fits = by (asks a h.lone now) where
   h : IsSeenAlone v
   h = seen_alone v sound alone
@@ -435,8 +468,10 @@ stepped_alone v told sound alone going fits = by (asks a h.lone now) where
       let n = next_alone a (replies_of v) h.lone now in (
         n.0,
         record {
-          is = ap (alone_after (v.executed + 1) v.subject v.context) (replies_kept v told going unasked) ∙ after_more v.executed v.subject v.context (replies_of v) ∙ n.1.is;
-          seen = n.1.seen ∙ ap (λ (u : RunView). Some (stepped (told_now a h.lone.run (replies_of v)) u)) h.seen ∙ ap Some (stepped_any v (told_now a h.lone.run (replies_of v)) told going unasked);
+          is = ap (alone_after (v.executed + 1) v.subject v.context) (replies_kept v told going unasked)
+              ∙ after_more v.executed v.subject v.context (replies_of v) ∙ n.1.is;
+          seen = n.1.seen ∙ ap (λ (u : RunView). Some (stepped (told_now a h.lone.run (replies_of v)) u)) h.seen
+              ∙ ap Some (stepped_any v (told_now a h.lone.run (replies_of v)) told going unasked);
         },
       )
 
@@ -453,7 +488,8 @@ stepped_alone v told sound alone going fits = by (asks a h.lone now) where
   hears_swap shelf asked new =
       let replies = more_than (replies_of v) (one_swapped told) in
       ap (λ (k : Asking). stepped (used_by k a.world.kinds (slice_get replies.answers i) (bytes_left h.lone.run replies)) v) (asked_as ∙ asked)
-      ∙ ap (λ (o : Option Reply). stepped (used_at_shelf (bytes_for a.world.kinds shelf (bytes_left h.lone.run replies)) o) v) (last (reply_in (heard_by_swap told)))
+      ∙ ap (λ (o : Option Reply). stepped (used_at_shelf (bytes_for a.world.kinds shelf (bytes_left h.lone.run replies)) o) v)
+      (last (reply_in (heard_by_swap told)))
       ∙ ap (λ (r : CallResult). stepped r v) (heard told fits)
       ∙ shelf_heard v told shelf going new
     where
@@ -464,7 +500,8 @@ stepped_alone v told sound alone going fits = by (asks a h.lone now) where
       taken = ap (λ (u : RunView). u.taken) h.seen
 
       heard : (told : CallResult) → FitsShelf v told
-          → used_at_shelf (bytes_for a.world.kinds shelf (drop (length h.lone.run.taken) (v.taken ++ bytes_told told))) (Some (reply_in (heard_by_swap told))) ≡ heard_by_swap told
+          → used_at_shelf (bytes_for a.world.kinds shelf (drop (length h.lone.run.taken) (v.taken ++ bytes_told told)))
+          (Some (reply_in (heard_by_swap told))) ≡ heard_by_swap told
       heard (view.Shelved bytes) fits =
           let image = image_at a.world.kinds shelf in
           let long : length bytes ≡ length image = fits shelf asked ∙ ap (λ (ks : List Kind). length (image_at ks shelf)) kinds in
@@ -494,7 +531,8 @@ alone_stepped v reply sound alone going fits =
 
 -- and its peak is the most that it held so far
 pub peak_stepped : (v : RunView) (reply : CallResult) → IsSound v → IsAlone v → v.status ≡ Going → FitsShelf v reply
-    → (alone_after (v.executed + 1) v.subject v.context (replies_of (stepped reply v))).peak ≡ max (alone_after v.executed v.subject v.context (replies_of v)).peak (length (stepped reply v).objects)
+    → (alone_after (v.executed + 1) v.subject v.context (replies_of (stepped reply v))).peak
+    ≡ max (alone_after v.executed v.subject v.context (replies_of v)).peak (length (stepped reply v).objects)
 peak_stepped v reply sound alone going fits =
     let n = stepped_alone v reply sound alone going fits in
     let r = shown_run n.0 0 (stepped reply v) n.1.seen in
@@ -521,17 +559,24 @@ exited_after v n sound alone ended =
     let few = bounded v sound in
     let rest = length (instructions v.subject.program) - v.executed in
     let all : length (instructions v.subject.program) ≡ rest + v.executed = omega (arith, few) in
-    ap (λ (m : ℕ). alone_after m v.subject v.context (replies_of v)) all ∙ ended_after rest v.executed v.subject v.context (replies_of v) h.lone n (alone_status v h (Exited n) ended)
+    ap (λ (m : ℕ). alone_after m v.subject v.context (replies_of v)) all
+    ∙ ended_after rest v.executed v.subject v.context (replies_of v) h.lone n (alone_status v h (Exited n) ended)
 
 -- the outcome of the run alone is that of a run that exited, whatever replies are after those that it was answered
 pub outcome_exited : (v : RunView) (n : ℕ) → IsSound v → IsAlone v → v.status ≡ Exited n → (more : Replies)
-    → outcome_alone v.subject v.context (more_than (replies_of v) more) ≡ record { status = Exited n; output = v.frame.output; executed = v.executed; peak = (alone_after v.executed v.subject v.context (replies_of v)).peak }
+    → outcome_alone v.subject v.context (more_than (replies_of v) more) ≡ record {
+      status = Exited n;
+      output = v.frame.output;
+      executed = v.executed;
+      peak = (alone_after v.executed v.subject v.context (replies_of v)).peak;
+    }
 outcome_exited v n sound alone ended more =
     let h = seen_alone v sound alone in
     let a = alone_after v.executed v.subject v.context (replies_of v) in
     let stays = exited_after v n sound alone ended in
     let fits = subst (λ (b : Alone). IsWithin (told_of b) (replies_of v)) (sym stays) (all_within v alone) in
-    ap outcome_of (after_unread (length (instructions v.subject.program)) v.subject v.context (replies_of v) more sound.accepted sound.context fits ∙ stays) ∙ outcome_seen a v n h.lone.run h.lone.only h.seen ended
+    ap outcome_of (after_unread (length (instructions v.subject.program)) v.subject v.context (replies_of v) more sound.accepted sound.context fits
+    ∙ stays) ∙ outcome_seen a v n h.lone.run h.lone.only h.seen ended
   where
     outcome_seen : (a : Alone) (v : RunView) (n : ℕ) (r : Running) → a.world.runs ≡ r ∷ [] → view_of a.world 0 r ≡ v
         → v.status ≡ Exited n
@@ -546,4 +591,5 @@ outcome_exited v n sound alone ended more =
 pub told_exited : (v : RunView) (n : ℕ) → IsSound v → IsAlone v → v.status ≡ Exited n → told_alone v.subject v.context (replies_of v) ≡ replies_of v
 told_exited v n sound alone ended =
     let h = seen_alone v sound alone in
-    ap (λ (a : Alone). told_to (slice_get a.world.runs 0)) (exited_after v n sound alone ended) ∙ ap told_to (there_is (alone_after v.executed v.subject v.context (replies_of v)) h.lone) ∙ ap replies_of h.seen
+    ap (λ (a : Alone). told_to (slice_get a.world.runs 0)) (exited_after v n sound alone ended)
+    ∙ ap told_to (there_is (alone_after v.executed v.subject v.context (replies_of v)) h.lone) ∙ ap replies_of h.seen

@@ -1,5 +1,6 @@
 -- A slot passes from one holder to another: owners, ledgers and pointers still fit together.
-use Rattle.std.proofs.Common.{◌≡◌, ◌≢◌, ◌⊎◌, inl, inr, ℕ, ◌+◌, ◌≤◌, Bool, true, false, cond, not, List, [], ◌∷◌, ◌++◌, length, filter, count_by, Some, refl, sym, ap, ◌∙◌, subst, arith}
+use Rattle.std.proofs.Common.{◌≡◌, ◌≢◌, ◌⊎◌, inl, inr, ℕ, ◌+◌, ◌≤◌, Bool, true, false, cond, not, List, [], ◌∷◌, ◌++◌, length, filter, count_by}
+use Rattle.std.proofs.Common.{Some, refl, sym, ap, ◌∙◌, subst, arith}
 use Rattle.std.specs.Prelude.{Contains, slice_get, ◌==◌}
 use Rattle.std.proofs.lemmas.Bool.{cases_eq, eq-eqb, ne_eqb, and_parts, and_from, not-true, not_from_false, false_from_ne_true}
 use Rattle.std.proofs.lemmas.List.Elements.{Contains-append_left, Contains-push, Contains-push_cases}
@@ -79,7 +80,9 @@ owned_moved w o stays holder owned drop may = record {
         stayed : (t : Bool) → stays p ≡ t → is_owned (moved w o stays holder) s ≡ true
         stayed true e =
             any_from (λ (q : Owner). q.slot == s) (left ++ new ∷ []) p (Contains-append_left left (new ∷ []) p (Contains-kept stays w.owners p among e)) its
-        stayed false e = any_from (λ (q : Owner). q.slot == s) (left ++ new ∷ []) new (Contains-push left new) (ap (λ (q : Owner). q.slot == s) (sym (drop.only p among e)) ∙ its)
+        stayed false e =
+            any_from (λ (q : Owner). q.slot == s) (left ++ new ∷ []) new (Contains-push left new)
+            (ap (λ (q : Owner). q.slot == s) (sym (drop.only p among e)) ∙ its)
 
     was_home : (s : ℕ) → is_home (moved w o stays holder) s ≡ true → is_home w s ≡ true
     was_home s home =

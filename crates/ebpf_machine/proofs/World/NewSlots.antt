@@ -1,5 +1,6 @@
 -- A new slot joins a ledger: owners, ledgers and pointers still fit together, and runs see what they saw.
-use Rattle.std.proofs.Common.{◌≡◌, ◌≢◌, ◌⊎◌, inl, inr, ℕ, ◌<◌, ◌≤◌, Bool, true, false, cond, not, ◌||◌, List, [], ◌∷◌, length, count_by, length-set, refl, sym, ap, ◌∙◌, arith}
+use Rattle.std.proofs.Common.{◌≡◌, ◌≢◌, ◌⊎◌, inl, inr, ℕ, ◌<◌, ◌≤◌, Bool, true, false, cond, not, ◌||◌, List, [], ◌∷◌, length, count_by, length-set}
+use Rattle.std.proofs.Common.{refl, sym, ap, ◌∙◌, arith}
 use Rattle.std.specs.Prelude.{Contains, nat_lt, ◌==◌}
 use Rattle.std.proofs.lemmas.Bool.{cases_eq, eqb-true, eq-eqb, ne_eqb, and_from, false_from_ne_true, not_from_false}
 use Rattle.std.proofs.lemmas.List.{get_or-set_same}
@@ -64,7 +65,13 @@ joined_once : (w : World) (kind slot : ℕ) → IsOwned w → IsNew w kind slot 
 joined_once w kind slot owned new =
     let none = none_counted (is_in slot) w.ledgers new.fresh in
     let one = ap (λ (b : Bool). cond {A = ℕ} b 1 0) (itself_in slot (ledger_of w kind)) in
-    omega (arith, none, one, sum_by-set (λ slots. cond (is_in slot slots) 1 0) w.ledgers kind (with_slot slot (ledger_of w kind)) [] (room w kind slot owned new))
+    omega (
+      arith,
+      none,
+      one,
+      sum_by-set (λ slots. cond (is_in slot slots) 1 0) w.ledgers kind (with_slot slot (ledger_of w kind)) []
+          (room w kind slot owned new),
+    )
 
 pub joined_kind : (w : World) (kind slot : ℕ) → IsOwned w → IsNew w kind slot → kind_in (with_slot_joined kind slot w) slot ≡ kind
 joined_kind w kind slot owned new =
@@ -75,7 +82,8 @@ joined_home w kind slot owned new =
     let inside : kind < length (with_slot_joined kind slot w).ledgers =
     omega (arith, room w kind slot owned new, length-set w.ledgers kind (with_slot slot (ledger_of w kind))) in
     let there = list_any_at (is_in slot) (with_slot_joined kind slot w).ledgers kind [] inside (joined_in w kind slot owned new) in
-    and_from (is_in_ledger (with_slot_joined kind slot w) slot) (not (is_owned w slot)) there (not_from_false (is_owned w slot) (nobodys w kind slot owned new))
+    and_from (is_in_ledger (with_slot_joined kind slot w) slot) (not (is_owned w slot)) there
+    (not_from_false (is_owned w slot) (nobodys w kind slot owned new))
 
 -- and of another slot
 pub joined_others : (w : World) (kind slot s : ℕ) → s ≢ slot → is_in_ledger (with_slot_joined kind slot w) s ≡ is_in_ledger w s
@@ -101,5 +109,6 @@ joined_change w kind slot owned new = record {
 pub owned_joined : (w : World) (kind slot : ℕ) → IsOwned w → IsNew w kind slot → IsOwned (with_slot_joined kind slot w)
 owned_joined w kind slot owned new = owned_changed w kind slot _ _ owned (joined_change w kind slot owned new)
 
-pub view_joined : (w : World) (run kind slot : ℕ) (r : Running) → IsOwned w → IsNew w kind slot → view_of (with_slot_joined kind slot w) run r ≡ view_of w run r
+pub view_joined : (w : World) (run kind slot : ℕ) (r : Running) → IsOwned w → IsNew w kind slot
+    → view_of (with_slot_joined kind slot w) run r ≡ view_of w run r
 view_joined w run kind slot r owned new = view_changed w run kind slot _ _ r (joined_change w kind slot owned new)

@@ -40,4 +40,6 @@ pub no_first_pointer : (n : Name) → HasPointer first_frame n → ⊥
 no_first_pointer n (InRegister v among names) =
     let all = AllPass-from_list_all is_no_object first_registers refl in
     no_object v n (All-contains (λ (x : Option (Value Name)). is_no_object x ≡ true) first_registers v all among) names
-no_first_pointer n (InCell c among names) = All-contains (λ (x : Cell Name). NamesPart x n → ⊥) (replicate 512 Unset) c (All-replicate (λ (x : Cell Name). NamesPart x n → ⊥) 512 Unset (λ h. h)) among names
+no_first_pointer n (InCell c among names) =
+    All-contains (λ (x : Cell Name). NamesPart x n → ⊥) (replicate 512 Unset) c
+    (All-replicate (λ (x : Cell Name). NamesPart x n → ⊥) 512 Unset (λ h. h)) among names

@@ -50,7 +50,13 @@ own_found w run n found e = by (is_held_by w run n) (is_anothers w run n.slot) r
 
   by : (t u : Bool) → is_held_by w run n ≡ t → cond t (Ok its) (cond u (Err AnotherRunsObject) (Err UseAfterFree)) ≡ Ok found
       → Contains w.owners (owner_of run n) × (found.bytes ≡ w.bytes n.slot) × (found.kind ≡ kind_in w n.slot)
-  by true u held e = let one = any_one (has_name run n) w.owners held in (subst (Contains w.owners) (its_owner run n one.0 one.2) one.1, ap (λ (f : Found). f.bytes) (ok_same its found (Ok its) refl e), ap (λ (f : Found). f.kind) (ok_same its found (Ok its) refl e))
+  by true u held e =
+      let one = any_one (has_name run n) w.owners held in (
+        subst (Contains w.owners) (its_owner run n one.0 one.2) one.1,
+        ap (λ (f : Found). f.bytes) (ok_same its found (Ok its) refl e),
+        ap
+            (λ (f : Found). f.kind) (ok_same its found (Ok its) refl e),
+      )
   by false true held e = absurd (cc)
   by false false held e = absurd (cc)
 
@@ -73,7 +79,8 @@ objects_found w run r n owned there has =
         let held = held_owner w run o found.0 in
         let holder : o.holder ≡ Run run n.call = held.1 ∙ ap (λ (k : ℕ). Run run k) (eqb-true (call_of o.holder) n.call found.1) in
         let slot = (owned.runs.pointers run r there n has).slot o held.0 holder in
-        let its = any_from (has_name run n) w.owners o held.0 (and_from (o.slot == n.slot) (is_call run n.call o.holder) (eq-eqb o.slot n.slot slot) (call_is run n.call o.holder holder)) in
+        let its = any_from (has_name run n) w.owners o held.0
+        (and_from (o.slot == n.slot) (is_call run n.call o.holder) (eq-eqb o.slot n.slot slot) (call_is run n.call o.holder holder)) in
         rw (its, slot) refl
     by None fails =
         let its : is_held_by w run n ≡ false = false_from_ne_true (is_held_by w run n) (λ held. unheld held) in

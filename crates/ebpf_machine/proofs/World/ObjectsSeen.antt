@@ -10,7 +10,8 @@ use Rattle.ebpf_machine.specs.Events.{with_bytes, with_owner, without_owner}
 use Rattle.ebpf_machine.specs.View.{ObjectView, call_of, object_in, patched_at}
 use Rattle.ebpf_machine.specs.Sound.{IsOwned}
 use Rattle.ebpf_machine.proofs.Lists.ListLemmas.{Contains-filter, map_agree, filter-map}
-use Rattle.ebpf_machine.proofs.World.Owners.{owner_of, held_owner, slot_of_call, slot_of_another_call, slot_of_another_run, not_home, kind_in-ledger, held_given, held_granted, others_given, others_granted}
+use Rattle.ebpf_machine.proofs.World.Owners.{owner_of, held_owner, slot_of_call, slot_of_another_call, slot_of_another_run, not_home}
+use Rattle.ebpf_machine.proofs.World.Owners.{kind_in-ledger, held_given, held_granted, others_given, others_granted}
 
 -- the objects of a run, as it sees them
 abbrev pub objects_of : World → ℕ → List ObjectView
@@ -44,13 +45,15 @@ object_written w run name at bytes o owned own among = by (cases_eq (call_of o.h
 pub objects_written : (w : World) (run : ℕ) (name : Name) (at : ℕ) (bytes : List ℕ) → IsOwned w → Contains w.owners (owner_of run name)
     → objects_of (with_bytes name.slot (patched (w.bytes name.slot) at bytes) w) run ≡ map (patched_at name.call at bytes) (objects_of w run)
 objects_written w run name at bytes owned own =
-    map_agree (object_in (with_bytes name.slot (patched (w.bytes name.slot) at bytes) w)) (λ (o : Owner). patched_at name.call at bytes (object_in w o)) (held_by w run) (λ o among. object_written w run name at bytes o owned own among)
+    map_agree (object_in (with_bytes name.slot (patched (w.bytes name.slot) at bytes) w)) (λ (o : Owner). patched_at name.call at bytes (object_in w o))
+    (held_by w run) (λ o among. object_written w run name at bytes o owned own among)
     ∙ sym (map-map (patched_at name.call at bytes) (object_in w) (held_by w run))
 
 pub others_written : (w : World) (run other : ℕ) (name : Name) (bytes : List ℕ) → IsOwned w → Contains w.owners (owner_of run name) → other ≢ run
     → objects_of (with_bytes name.slot bytes w) other ≡ objects_of w other
 others_written w run other name bytes owned own ne =
-    map_agree (object_in (with_bytes name.slot bytes w)) (object_in w) (held_by w other) (λ o among. object_kept w name.slot bytes o (slot_of_another_run w run other name o owned own ne among))
+    map_agree (object_in (with_bytes name.slot bytes w)) (object_in w) (held_by w other)
+    (λ o among. object_kept w name.slot bytes o (slot_of_another_run w run other name o owned own ne among))
 
 -- ---- an object is given back
 
@@ -69,7 +72,8 @@ objects_given w run name bytes owned own =
     kept o among =
         let parts = Contains-filter stays (held_by w run) o among in
         let held = held_owner w run o parts.0 in
-        object_kept w name.slot bytes o (slot_of_another_call w run name o owned own held.0 (λ e. let named = eq-eqb (call_of o.holder) name.call e in let gone = parts.1 in absurd (cc)))
+        object_kept w name.slot bytes o
+        (slot_of_another_call w run name o owned own held.0 (λ e. let named = eq-eqb (call_of o.holder) name.call e in let gone = parts.1 in absurd (cc)))
 
 pub others_given_back : (w : World) (run other : ℕ) (name : Name) (bytes : List ℕ) → IsOwned w → Contains w.owners (owner_of run name) → other ≢ run
     → objects_of (with_bytes name.slot bytes (without_owner run name w)) other ≡ objects_of w other
@@ -80,10 +84,12 @@ others_given_back w run other name bytes owned own ne =
 
 pub objects_kept : (w : World) (run slot : ℕ) (bytes : List ℕ) → is_home w slot ≡ true → objects_of (with_bytes slot bytes w) run ≡ objects_of w run
 objects_kept w run slot bytes home =
-    map_agree (object_in (with_bytes slot bytes w)) (object_in w) (held_by w run) (λ o among. object_kept w slot bytes o (not_home w o slot home (held_owner w run o among).0))
+    map_agree (object_in (with_bytes slot bytes w)) (object_in w) (held_by w run)
+    (λ o among. object_kept w slot bytes o (not_home w o slot home (held_owner w run o among).0))
 
 pub objects_granted : (w : World) (run at slot kind : ℕ) → IsOwned w → is_home w slot ≡ true → is_in slot (ledger_of w kind) ≡ true
-    → objects_of (with_owner slot (Run run at) (with_bytes slot (image_at w.kinds kind) w)) run ≡ objects_of w run ++ record { call = at; kind = kind; bytes = image_at w.kinds kind } ∷ []
+    → objects_of (with_owner slot (Run run at) (with_bytes slot (image_at w.kinds kind) w)) run
+    ≡ objects_of w run ++ record { call = at; kind = kind; bytes = image_at w.kinds kind } ∷ []
 objects_granted w run at slot kind owned home there =
     let v = with_bytes slot (image_at w.kinds kind) w in
     let new : ObjectView = record { call = at; kind = kind; bytes = image_at w.kinds kind } in
@@ -92,7 +98,8 @@ objects_granted w run at slot kind owned home there =
     ∙ ap (λ (objects : List ObjectView). objects ++ object_in v (owner_of run (name_of slot at)) ∷ []) (objects_kept w run slot (image_at w.kinds kind) home)
     ∙ ap (λ (o : ObjectView). objects_of w run ++ o ∷ []) is_new
   where
-    is_new : object_in (with_bytes slot (image_at w.kinds kind) w) (owner_of run (name_of slot at)) ≡ record { call = at; kind = kind; bytes = image_at w.kinds kind }
+    is_new : object_in (with_bytes slot (image_at w.kinds kind) w) (owner_of run (name_of slot at))
+        ≡ record { call = at; kind = kind; bytes = image_at w.kinds kind }
     is_new =
         let of_kind = kind_in-ledger w kind slot owned there in
         let here = eq-eqb slot slot refl in

@@ -1,5 +1,6 @@
 -- Owners, ledgers and pointers still fit together where one part of a world changes: a run, the bytes of a slot, or who owns one.
-use Rattle.std.proofs.Common.{◌≡◌, ◌≢◌, ◌⊎◌, inl, inr, ℕ, ◌+◌, ◌<◌, ◌≤◌, Bool, true, false, cond, not, List, [], ◌∷◌, ◌++◌, length, filter, count_by, Some, refl, sym, ap, ◌∙◌, subst, arith}
+use Rattle.std.proofs.Common.{◌≡◌, ◌≢◌, ◌⊎◌, inl, inr, ℕ, ◌+◌, ◌<◌, ◌≤◌, Bool, true, false, cond, not, List, [], ◌∷◌, ◌++◌, length, filter}
+use Rattle.std.proofs.Common.{count_by, Some, refl, sym, ap, ◌∙◌, subst, arith}
 use Rattle.std.specs.Prelude.{Contains, slice_get, ◌==◌}
 use Rattle.std.specs.List.{list_any}
 use Rattle.std.proofs.lemmas.Bool.{cases_eq, eqb-true, eqb-false, eq-eqb, ne_eqb, and_parts, and_from, not-true, not_from_false, or_parts, false_from_ne_true}
@@ -7,10 +8,12 @@ use Rattle.std.proofs.lemmas.List.Elements.{Contains-push_cases}
 use Rattle.std.proofs.lemmas.List.Folds.{list_any-append}
 use Rattle.std.proofs.lemmas.List.Sums.{sum_by_push}
 use Rattle.ebpf_verify.specs.Subject.{Subject}
-use Rattle.ebpf_machine.specs.World.{Name, World, Running, AnsweredCall, Owner, Holder, Run, Shelf, is_in, is_in_ledger, is_owned, is_home, ledger_of, kinds_of, image_at, kind_in, IsOfKind, AskedFor}
+use Rattle.ebpf_machine.specs.World.{Name, World, Running, AnsweredCall, Owner, Holder, Run, Shelf, is_in, is_in_ledger, is_owned, is_home}
+use Rattle.ebpf_machine.specs.World.{ledger_of, kinds_of, image_at, kind_in, IsOfKind, AskedFor}
 use Rattle.ebpf_machine.specs.Events.{with_run, with_bytes, with_owner}
 use Rattle.ebpf_machine.specs.Sound.{IsOwned, HasPointer, HasOneSlot, IsTrue}
-use Rattle.ebpf_machine.proofs.Lists.ListLemmas.{get_set_same, get_set_other, get_set_cases, Contains-filter, Contains-kept, count_by-filter-le, any_from, any_one, none_counted}
+use Rattle.ebpf_machine.proofs.Lists.ListLemmas.{get_set_same, get_set_other, get_set_cases, Contains-filter, Contains-kept, count_by-filter-le}
+use Rattle.ebpf_machine.proofs.Lists.ListLemmas.{any_from, any_one, none_counted}
 use Rattle.ebpf_machine.proofs.World.Owners.{not_home, same_slot, kind_in-ledger, in_one_ledger}
 use Rattle.ebpf_machine.proofs.World.Moves.{IsDropped, MayHold, owned_by, with_owners}
 
@@ -42,9 +45,11 @@ of_kind_later w run r now (Run asker at) kind there later h = by (cases_eq asker
         behind = omega (arith, h.behind, ap (λ (x : Running). x.pc) same, later.pc);
         reply = h.reply;
         got = h.got;
-        told = later.told (record { at = at; kind = kind; reply = h.reply }) (subst (λ (x : Running). Contains x.calls (record { at = at; kind = kind; reply = h.reply })) same h.told);
+        told = later.told (record { at = at; kind = kind; reply = h.reply })
+            (subst (λ (x : Running). Contains x.calls (record { at = at; kind = kind; reply = h.reply })) same h.told);
       }
-  by (inr ne) = record { asker = h.asker; there = get_set_other w.runs run asker now ne ∙ h.there; behind = h.behind; reply = h.reply; got = h.got; told = h.told }
+  by (inr ne) =
+      record { asker = h.asker; there = get_set_other w.runs run asker now ne ∙ h.there; behind = h.behind; reply = h.reply; got = h.got; told = h.told }
 of_kind_later w run r now (Shelf s) kind there later h = h
 
 pub owned_running : (w : World) (run : ℕ) (r now : Running) → IsOwned w → slice_get w.runs run ≡ Some r → IsLater r now
@@ -73,7 +78,10 @@ owned_running w run r now owned there later true_now alike = record {
         → ((k ≡ run) × (now ≡ x)) ⊎ ((k ≢ run) × (slice_get w.runs k ≡ Some x)) → IsTrue w.owners k x n
     true_in k x n has (inl e) =
         let here = true_now n (subst (λ (y : Running). HasPointer y.frame n) (sym e.1) has) in
-        record { behind = subst (λ (y : Running). n.call < y.pc) e.1 here.behind; slot = λ o among held. here.slot o among (held ∙ ap (λ (m : ℕ). Run m n.call) e.0) }
+        record {
+          behind = subst (λ (y : Running). n.call < y.pc) e.1 here.behind;
+          slot = λ o among held. here.slot o among (held ∙ ap (λ (m : ℕ). Run m n.call) e.0);
+        }
     true_in k x n has (inr at) = owned.runs.pointers k x at.1 n has
 
 -- ---- bytes of an object that a run holds
@@ -219,7 +227,8 @@ owned_granted w slot kind holder bytes owned home there as_long may = record {
     new_long : length (cond (slot == slot) bytes (w.bytes slot)) ≡ length (image_at w.kinds (kind_in w slot))
     new_long = let here = eq-eqb slot slot refl in let of_its = kind_in-ledger w kind slot owned there in rw (here, of_its) as_long
 
-    long : (o : Owner) → Contains w.owners o ⊎ (new ≡ o) → length (cond (o.slot == slot) bytes (w.bytes o.slot)) ≡ length (image_at w.kinds (kind_in w o.slot))
+    long : (o : Owner) → Contains w.owners o ⊎ (new ≡ o)
+        → length (cond (o.slot == slot) bytes (w.bytes o.slot)) ≡ length (image_at w.kinds (kind_in w o.slot))
     long o (inl among) = let apart = ne_eqb o.slot slot (not_home w o slot home among) in rw apart (owned.holders.sized o among)
     long o (inr e) = subst (λ (p : Owner). length (cond (p.slot == slot) bytes (w.bytes p.slot)) ≡ length (image_at w.kinds (kind_in w p.slot))) e new_long
 

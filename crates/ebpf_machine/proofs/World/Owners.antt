@@ -1,16 +1,19 @@
 -- Owners of a world in which owners, ledgers and pointers fit together: each is known by its slot, and by its call.
-use Rattle.std.proofs.Common.{◌≡◌, ◌≢◌, ℕ, zero, suc, ◌+◌, ◌≤◌, Bool, true, false, cond, not, ◌&&◌, List, [], ◌∷◌, ◌++◌, filter, count_by, get_or, refl, sym, ap, ◌∙◌, subst, arith}
+use Rattle.std.proofs.Common.{◌≡◌, ◌≢◌, ℕ, zero, suc, ◌+◌, ◌≤◌, Bool, true, false, cond, not, ◌&&◌, List, [], ◌∷◌, ◌++◌, filter, count_by, get_or}
+use Rattle.std.proofs.Common.{refl, sym, ap, ◌∙◌, subst, arith}
 use Rattle.std.specs.Prelude.{Contains, ◌==◌}
 use Rattle.std.specs.List.{list_any}
 use Rattle.std.proofs.lemmas.Bool.{eqb-true, eq-eqb, ne_eqb, not-true, and_parts, false_from_ne_true}
 use Rattle.std.proofs.lemmas.List.{append-nil}
 use Rattle.std.proofs.lemmas.List.Elements.{filter-append}
 use Rattle.std.proofs.lemmas.List.Folds.{list_any_at}
-use Rattle.ebpf_machine.specs.World.{Name, World, Owner, Holder, Run, Shelf, is_in, is_in_ledger, is_owned, is_home, is_run, is_call, is_shelf, held_by, ledger_of, kind_from, kind_in, name_of}
+use Rattle.ebpf_machine.specs.World.{Name, World, Owner, Holder, Run, Shelf, is_in, is_in_ledger, is_owned, is_home, is_run, is_call, is_shelf}
+use Rattle.ebpf_machine.specs.World.{held_by, ledger_of, kind_from, kind_in, name_of}
 use Rattle.ebpf_machine.specs.Events.{with_owner, without_owner}
 use Rattle.ebpf_machine.specs.View.{call_of}
 use Rattle.ebpf_machine.specs.Sound.{IsOwned}
-use Rattle.ebpf_machine.proofs.Lists.ListLemmas.{Contains-head, Contains-tail, Contains-filter, any_from, any_one, none_from_count, none_counted, counted_not, counted_at, counted_less, counted_once, only_one, filter_same, filter-filter}
+use Rattle.ebpf_machine.proofs.Lists.ListLemmas.{Contains-head, Contains-tail, Contains-filter, any_from, any_one, none_from_count, none_counted}
+use Rattle.ebpf_machine.proofs.Lists.ListLemmas.{counted_not, counted_at, counted_less, counted_once, only_one, filter_same, filter-filter}
 
 -- the owner of the object of a name
 abbrev pub owner_of : ℕ → Name → Owner
@@ -111,7 +114,8 @@ held_given w run name its =
         eq-eqb o.slot name.slot (its o among (is_run-own run o.holder mine ∙ ap (λ (n : ℕ). Run run n) (eqb-true (call_of o.holder) name.call named)))
 
     alike : (o : Owner) → Contains w.owners o
-        → (not ((o.slot == name.slot) && is_call run name.call o.holder) && is_run run o.holder) ≡ (is_run run o.holder && not (call_of o.holder == name.call))
+        → (not ((o.slot == name.slot) && is_call run name.call o.holder) && is_run run o.holder)
+        ≡ (is_run run o.holder && not (call_of o.holder == name.call))
     alike o among =
         ap (λ (t : Bool). not ((o.slot == name.slot) && t) && is_run run o.holder) (is_call-parts run name.call o.holder)
         ∙ kept_bits (o.slot == name.slot) (is_run run o.holder) (call_of o.holder == name.call) (is_its o among)
@@ -151,7 +155,9 @@ kind_from-ledger base (slots ∷ ledgers) (suc kind) slot there most =
     rw elsewhere (kind_from-ledger (suc base) ledgers kind slot there (omega (arith, counted_less (is_in slot) slots ledgers)) ∙ omega arith)
   where
     elsewhere : is_in slot slots ≡ false
-    elsewhere = false_from_ne_true (is_in slot slots) (λ here. absurd (omega (arith, counted_once (is_in slot) slots ledgers here, counted_at (is_in slot) ledgers kind [] refl there)))
+    elsewhere =
+        false_from_ne_true (is_in slot slots)
+        (λ here. absurd (omega (arith, counted_once (is_in slot) slots ledgers here, counted_at (is_in slot) ledgers kind [] refl there)))
 
 pub kind_in-ledger : (w : World) (kind slot : ℕ) → IsOwned w → is_in slot (ledger_of w kind) ≡ true → kind_in w slot ≡ kind
 kind_in-ledger w kind slot owned there = kind_from-ledger 0 w.ledgers kind slot there (owned.ledgers.apart slot) ∙ omega arith
@@ -174,7 +180,8 @@ in_its_ledger base (slots ∷ ledgers) slot there = by (is_in slot slots) refl (
       (suc rest.0, rest.1 ∙ omega arith, rest.2)
 
 pub kind_there : (w : World) (slot : ℕ) → is_in_ledger w slot ≡ true → is_in slot (ledger_of w (kind_in w slot)) ≡ true
-kind_there w slot there = let at = in_its_ledger 0 w.ledgers slot there in subst (λ (k : ℕ). is_in slot (ledger_of w k) ≡ true) (sym (at.1 ∙ omega arith)) at.2
+kind_there w slot there =
+    let at = in_its_ledger 0 w.ledgers slot there in subst (λ (k : ℕ). is_in slot (ledger_of w k) ≡ true) (sym (at.1 ∙ omega arith)) at.2
 
 -- an owned slot is in a ledger
 pub owned_there : (w : World) (o : Owner) → IsOwned w → Contains w.owners o → is_in_ledger w o.slot ≡ true
@@ -191,7 +198,8 @@ once_by : (p : Owner → Bool) (owners : List Owner)
     → ((slot : ℕ) → count_by (λ (o : Owner). o.slot == slot) owners ≤ 1) → count_by p owners ≤ 1
 once_by p [] one once = omega arith
 once_by p (o ∷ owners) one once =
-    by (p o) refl (once_by p owners (λ a b here there. one a b (Contains-tail o a owners here) (Contains-tail o b owners there)) (λ slot. omega (arith, once slot, counted_less (λ (q : Owner). q.slot == slot) o owners)))
+    by (p o) refl (once_by p owners (λ a b here there. one a b (Contains-tail o a owners here) (Contains-tail o b owners there))
+    (λ slot. omega (arith, once slot, counted_less (λ (q : Owner). q.slot == slot) o owners)))
   where
     none_later : p o ≡ true → list_any p owners ≡ false
     none_later passes = false_from_ne_true (list_any p owners) (λ some. twice (any_one p owners some)) where
@@ -214,4 +222,6 @@ once_by p (o ∷ owners) one once =
     by false e later = omega (arith, later, counted_not p o owners e)
 
 pub shelf_once : (w : World) (shelf : ℕ) → IsOwned w → count_by (λ (o : Owner). is_shelf shelf o.holder) w.owners ≤ 1
-shelf_once w shelf owned = once_by (λ (o : Owner). is_shelf shelf o.holder) w.owners (λ o q here there a b. owned.holders.one_a_call o q here there (is_shelf-own shelf o.holder a ∙ sym (is_shelf-own shelf q.holder b))) owned.holders.once
+shelf_once w shelf owned =
+    once_by (λ (o : Owner). is_shelf shelf o.holder) w.owners
+    (λ o q here there a b. owned.holders.one_a_call o q here there (is_shelf-own shelf o.holder a ∙ sym (is_shelf-own shelf q.holder b))) owned.holders.once

@@ -14,7 +14,9 @@ use Rattle.ebpf_machine.proofs.World.LedgerChanges.{IsChange, owned_changed, vie
 -- ---- a ledger without a slot
 
 pub others_in : (s slot : ℕ) (slots : List ℕ) → s ≢ slot → is_in s (without_slot slot slots) ≡ is_in s slots
-others_in s slot slots ne = any-filter_same (λ (x : ℕ). x == s) (λ (x : ℕ). not (x == slot)) true (λ x e. not_from_false (x == slot) (ne_eqb x slot (λ same. ne (sym (eqb-true x s e) ∙ same)))) slots
+others_in s slot slots ne =
+    any-filter_same (λ (x : ℕ). x == s) (λ (x : ℕ). not (x == slot)) true
+    (λ x e. not_from_false (x == slot) (ne_eqb x slot (λ same. ne (sym (eqb-true x s e) ∙ same)))) slots
 
 itself_out : (slot : ℕ) (slots : List ℕ) → is_in slot (without_slot slot slots) ≡ false
 itself_out slot slots = any-filter_same (λ (x : ℕ). x == slot) (λ (x : ℕ). not (x == slot)) false (λ x e. ap not e) slots
@@ -36,7 +38,14 @@ parted_count : (w : World) (kind slot : ℕ) → IsOwned w → IsReapable w kind
 parted_count w kind slot owned reapable =
     let was = ap (λ (b : Bool). cond {A = ℕ} b 1 0) reapable.its in
     let is = ap (λ (b : Bool). cond {A = ℕ} b 1 0) (itself_out slot (ledger_of w kind)) in
-    omega (arith, was, is, owned.ledgers.apart slot, sum_by-set (λ slots. cond (is_in slot slots) 1 0) w.ledgers kind (without_slot slot (ledger_of w kind)) [] (has_ledger w.ledgers kind slot reapable.its))
+    omega (
+      arith,
+      was,
+      is,
+      owned.ledgers.apart slot,
+      sum_by-set (λ slots. cond (is_in slot slots) 1 0) w.ledgers kind
+          (without_slot slot (ledger_of w kind)) [] (has_ledger w.ledgers kind slot reapable.its),
+    )
 
 pub parted_away : (w : World) (kind slot : ℕ) → IsOwned w → IsReapable w kind slot → is_in_ledger (with_slot_left kind slot w) slot ≡ false
 parted_away w kind slot owned reapable = none_from_count (is_in slot) (with_slot_left kind slot w).ledgers (parted_count w kind slot owned reapable)

@@ -1,5 +1,6 @@
 -- An instruction makes no pointer to an object that its run had none to.
-use Rattle.std.proofs.Common.{◌≡◌, ℕ, zero, suc, ◌<◌, ℤ, pos, Bool, true, false, cond, List, [], ◌∷◌, length, get_or, set, Option, Some, None, Result, Ok, Err, refl, sym, subst, arith, inl, inr, ◌⊎◌, ◌+◌, ◌-◌, ◌/◌, ◌+ℤ◌, not}
+use Rattle.std.proofs.Common.{◌≡◌, ℕ, zero, suc, ◌<◌, ℤ, pos, Bool, true, false, cond, List, [], ◌∷◌, length, get_or, set, Option, Some, None}
+use Rattle.std.proofs.Common.{Result, Ok, Err, refl, sym, subst, arith, inl, inr, ◌⊎◌, ◌+◌, ◌-◌, ◌/◌, ◌+ℤ◌, not}
 use Rattle.std.specs.Prelude.{Contains, nat_lt, map, ◌&&◌, ◌==◌}
 use Rattle.std.specs.Ordering.{int_eq}
 use Rattle.ebpf_insn.specs.declared.register.Reg.{Reg}
@@ -24,7 +25,12 @@ use Rattle.ebpf_machine.specs.declared.value.Value.TheVariants.{Number, Pointer}
 use Rattle.ebpf_machine.specs.declared.value.Base.{Base}
 use Rattle.ebpf_machine.specs.declared.value.Base.TheVariants.{Stack, Context, Object}
 use Rattle.ebpf_machine.specs.Values.{Trap, ContextAccess, ObjectBounds, PointerMisuse, BadCall, FramePointerWritten, Leak, Frame, read, source_value}
-use Rattle.ebpf_machine.specs.Effect.{Found, Environment, Act, Nothing, Ask, Free, Exchange, Effect, Goes, Traps, effect_at, effect, unary, copied, moved_on_left, moved_on_right, pointer_to, computed, binary, alu_value, with_value, written, is_taken, read_object, loaded, rewritten, written_at, writes_object, effect_of_store_through, effect_of_store, unset, without_arguments, with_zero, effect_of_new, effect_of_freeing, effect_of_free, with_output, effect_of_emit, is_shelf_number, number_in, exchanges, effect_of_giving, effect_of_swapping, effect_of_swap, effect_of_call, effect_of_jump, effect_of_branch, effect_of_exit, result_number}
+use Rattle.ebpf_machine.specs.Effect.{Found, Environment, Act, Nothing, Ask, Free, Exchange, Effect, Goes, Traps, effect_at, effect, unary, copied}
+use Rattle.ebpf_machine.specs.Effect.{moved_on_left, moved_on_right, pointer_to, computed, binary, alu_value, with_value, written, is_taken}
+use Rattle.ebpf_machine.specs.Effect.{read_object, loaded, rewritten, written_at, writes_object, effect_of_store_through, effect_of_store, unset}
+use Rattle.ebpf_machine.specs.Effect.{without_arguments, with_zero, effect_of_new, effect_of_freeing, effect_of_free, with_output, effect_of_emit}
+use Rattle.ebpf_machine.specs.Effect.{is_shelf_number, number_in, exchanges, effect_of_giving, effect_of_swapping, effect_of_swap, effect_of_call}
+use Rattle.ebpf_machine.specs.Effect.{effect_of_jump, effect_of_branch, effect_of_exit, result_number}
 use Rattle.ebpf_machine.specs.World.{Name}
 use Rattle.std.specs.List.{enumerate_from}
 use Rattle.std.proofs.lemmas.Bool.{cond_both}
@@ -32,7 +38,8 @@ use Rattle.ebpf_insn.specs.declared.insn.Size.{Size}
 use Rattle.ebpf_state.specs.Stack.{bytes_in, place_of, is_whole_word}
 use Rattle.ebpf_machine.specs.declared.value.Cell.{Cell}
 use Rattle.ebpf_machine.specs.declared.value.Cell.TheVariants.{Unset, Byte, Part}
-use Rattle.ebpf_machine.specs.Cells.{cell_at, are_parts, pointer_from, number_from, loaded_number, loaded_word, loaded_at, place_in, read_at, cell_of, left_over, touches, is_among, stored_cell, stored_cells, is_pointer, stored_at}
+use Rattle.ebpf_machine.specs.Cells.{cell_at, are_parts, pointer_from, number_from, loaded_number, loaded_word, loaded_at, place_in, read_at}
+use Rattle.ebpf_machine.specs.Cells.{cell_of, left_over, touches, is_among, stored_cell, stored_cells, is_pointer, stored_at}
 use Rattle.ebpf_machine.specs.Sound.{Names, NamesPart, HasPointer, InRegister, InCell}
 use Rattle.ebpf_machine.proofs.World.CellsTold.{HasPart, cell_points}
 
@@ -113,7 +120,8 @@ abbrev IsPlainEffect : Frame Name → Effect Name → Type 0
 IsPlainEffect before (Goes act to after) = IsPlain before after
 IsPlainEffect before _ = Unit {0}
 
-value_plain : (frame : Frame Name) (dst : Reg) (v : Value Name) → ((n : Name) → Names (Some v) n → HasPointer frame n) → IsPlain frame (with_value frame dst v)
+value_plain : (frame : Frame Name) (dst : Reg) (v : Value Name) → ((n : Name) → Names (Some v) n → HasPointer frame n)
+    → IsPlain frame (with_value frame dst v)
 value_plain frame dst v from = pointed where
   pointed : (n : Name) → HasPointer (with_value frame dst v) n → HasPointer frame n
   pointed n (InCell c there h) = InCell c there h
@@ -162,8 +170,10 @@ loaded_points : (one : Name → Name → Bool) (place : Option ℕ) (bytes : ℕ
     → PointsIn stack (loaded_at one place bytes signed stack)
 loaded_points one None bytes signed stack = tt
 loaded_points one (Some place) bytes signed stack =
-    cond_both (is_whole_word place bytes) (loaded_word (pointer_from one (cell_at stack place) stack place) (number_from stack place bytes) bytes signed) (loaded_number (number_from stack place bytes) bytes signed) (PointsIn stack)
-    (λ e. word_points one (cell_at stack place) stack place (number_from stack place bytes) bytes signed (λ n part. (place, part))) (λ e. number_points stack (number_from stack place bytes) bytes signed)
+    cond_both (is_whole_word place bytes) (loaded_word (pointer_from one (cell_at stack place) stack place) (number_from stack place bytes) bytes signed)
+    (loaded_number (number_from stack place bytes) bytes signed) (PointsIn stack)
+    (λ e. word_points one (cell_at stack place) stack place (number_from stack place bytes) bytes signed (λ n part. (place, part)))
+    (λ e. number_points stack (number_from stack place bytes) bytes signed)
 
 load_plain : (to : ℕ) (frame : Frame Name) (dst : Reg) (r : Result (Value Name) Trap) → PointsIn frame.stack r → IsPlainEffect frame (written to frame dst r)
 load_plain to frame dst (Err trap) points = tt
@@ -177,7 +187,8 @@ read_points_nowhere : (stack : List (Cell Name)) (outside : Trap) (place : Optio
 read_points_nowhere stack outside None bytes signed source = tt
 read_points_nowhere stack outside (Some place) bytes signed source = λ n h. absurd h
 
-object_points_nowhere : (stack : List (Cell Name)) (r : Result Found Trap) (at : ℤ) (bytes : ℕ) (signed : Bool) → PointsIn stack (read_object r at bytes signed)
+object_points_nowhere : (stack : List (Cell Name)) (r : Result Found Trap) (at : ℤ) (bytes : ℕ) (signed : Bool)
+    → PointsIn stack (read_object r at bytes signed)
 object_points_nowhere stack (Err trap) at bytes signed = tt
 object_points_nowhere stack (Ok found) at bytes signed =
     read_points_nowhere stack ObjectBounds (place_in (length found.bytes) at bytes) bytes signed found.bytes
@@ -355,7 +366,9 @@ calls_plain (Some helper.Swap) to a frame = swaps_plain to a frame (read frame R
 
 -- an operation on one number
 number_plain : (to : ℕ) (frame : Frame Name) (dst : Reg) (f : ℕ → ℕ) (src : Reg) → IsPlainEffect frame (written to frame dst (unary f (read frame src)))
-number_plain to frame dst f src = written_plain to frame dst (read frame src) (read frame src) (unary f (read frame src)) (read_points frame src) (read_points frame src) (unary_points f (read frame src) (read frame src))
+number_plain to frame dst f src =
+    written_plain to frame dst (read frame src) (read frame src) (unary f (read frame src)) (read_points frame src) (read_points frame src)
+    (unary_points f (read frame src) (read frame src))
 
 jumps_plain : (target : Option ℕ) (frame : Frame Name) → IsPlainEffect frame (effect_of_jump target frame)
 jumps_plain None frame = tt
@@ -379,14 +392,17 @@ exits_plain frame holds (Some v) = leaks (nat_lt 0 holds) v where
 
 effect_plain : (i : Insn) (pc : ℕ) (a : Environment Name) (frame : Frame Name) → IsPlainEffect frame (effect i pc a frame)
 effect_plain (insn.Alu width o dst src) pc a frame =
-    written_plain _ frame dst (read frame dst) (source_value frame width src) (alu_value width o (read frame dst) (source_value frame width src)) (read_points frame dst) (source_points frame width src) (alu_points width o (read frame dst) (source_value frame width src))
+    written_plain _ frame dst (read frame dst) (source_value frame width src) (alu_value width o (read frame dst) (source_value frame width src))
+    (read_points frame dst) (source_points frame width src) (alu_points width o (read frame dst) (source_value frame width src))
 effect_plain (insn.Sext width bits dst src) pc a frame = number_plain _ frame dst (extension_at width bits) src
 effect_plain (insn.Neg width dst) pc a frame = number_plain _ frame dst (negation_at width) dst
 effect_plain (insn.Swap order bits dst) pc a frame = number_plain _ frame dst (swap_of order bits) dst
 effect_plain (insn.Wide dst value) pc a frame = written_plain _ frame dst None None (Ok (Number value)) (λ n h. absurd h) (λ n h. absurd h) (λ n h. absurd h)
 effect_plain (insn.Jump offset) pc a frame = jumps_plain (jump_of (insn.Jump offset) pc) frame
 effect_plain (insn.JumpFar offset) pc a frame = jumps_plain (jump_of (insn.JumpFar offset) pc) frame
-effect_plain (insn.Branch width condition left right offset) pc a frame = branches_plain _ (jump_of (insn.Branch width condition left right offset) pc) frame (is_taken width condition right (read frame left) (source_value frame width right))
+effect_plain (insn.Branch width condition left right offset) pc a frame =
+    branches_plain _ (jump_of (insn.Branch width condition left right offset) pc) frame
+    (is_taken width condition right (read frame left) (source_value frame width right))
 effect_plain insn.Exit pc a frame = exits_plain frame a.holds (read frame R0)
 effect_plain (insn.Load size signed dst base offset) pc a frame =
     load_plain _ frame dst (loaded a frame.stack size signed offset (read frame base)) (through_points a frame.stack size signed offset (read frame base))

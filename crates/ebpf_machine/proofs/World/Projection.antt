@@ -1,5 +1,6 @@
 -- An instruction does to a run with other names what it does to the run, with these names.
-use Rattle.std.proofs.Common.{◌≡◌, ℕ, zero, suc, ◌+◌, ℤ, pos, ◌+ℤ◌, Bool, true, false, cond, List, [], ◌∷◌, length, get_or, set, Option, Some, None, Result, Ok, Err, refl, sym, ap, ◌∙◌}
+use Rattle.std.proofs.Common.{◌≡◌, ℕ, zero, suc, ◌+◌, ℤ, pos, ◌+ℤ◌, Bool, true, false, cond, List, [], ◌∷◌, length, get_or, set, Option, Some, None}
+use Rattle.std.proofs.Common.{Result, Ok, Err, refl, sym, ap, ◌∙◌}
 use Rattle.std.specs.Prelude.{map, nat_lt, option_map, ◌&&◌, ◌==◌}
 use Rattle.std.specs.Ordering.{int_eq}
 use Rattle.std.proofs.lemmas.List.{map-set}
@@ -31,7 +32,12 @@ use Rattle.ebpf_machine.specs.declared.value.Value.TheVariants.{Number, Pointer}
 use Rattle.ebpf_machine.specs.declared.value.Cell.{Cell}
 use Rattle.ebpf_machine.specs.Values.{Trap, ContextAccess, ObjectBounds, PointerMisuse, BadCall, FramePointerWritten, Leak, Frame, read, source_value}
 use Rattle.ebpf_machine.specs.Cells.{loaded_at, place_in, read_at, stored_at}
-use Rattle.ebpf_machine.specs.Effect.{Found, Environment, Act, Nothing, Ask, Free, Exchange, Effect, Goes, Traps, effect_at, effect, unary, copied, moved_on_left, moved_on_right, pointer_to, computed, binary, alu_value, with_value, written, is_inequality, compared, is_taken, read_object, loaded, rewritten, written_at, writes_object, effect_of_store_through, effect_of_store, unset, without_arguments, with_zero, effect_of_new, effect_of_freeing, effect_of_free, with_output, effect_of_emit, exchanges, effect_of_giving, effect_of_swapping, effect_of_swap, effect_of_call, effect_of_jump, effect_of_branch, effect_of_exit, result_number}
+use Rattle.ebpf_machine.specs.Effect.{Found, Environment, Act, Nothing, Ask, Free, Exchange, Effect, Goes, Traps, effect_at, effect, unary, copied}
+use Rattle.ebpf_machine.specs.Effect.{moved_on_left, moved_on_right, pointer_to, computed, binary, alu_value, with_value, written, is_inequality}
+use Rattle.ebpf_machine.specs.Effect.{compared, is_taken, read_object, loaded, rewritten, written_at, writes_object, effect_of_store_through}
+use Rattle.ebpf_machine.specs.Effect.{effect_of_store, unset, without_arguments, with_zero, effect_of_new, effect_of_freeing, effect_of_free}
+use Rattle.ebpf_machine.specs.Effect.{with_output, effect_of_emit, exchanges, effect_of_giving, effect_of_swapping, effect_of_swap, effect_of_call}
+use Rattle.ebpf_machine.specs.Effect.{effect_of_jump, effect_of_branch, effect_of_exit, result_number}
 use Rattle.ebpf_machine.specs.Renaming.{base_renamed, value_renamed, register_renamed, cell_renamed, frame_renamed}
 use Rattle.ebpf_machine.specs.Sound.{Names, HasPointer}
 use Rattle.ebpf_machine.proofs.World.Telling.{Telling, trap_told, found_told, act_told, effect_told}
@@ -137,7 +143,8 @@ with_value-told {N} {M} how frame dst v =
     ap (λ (regs : List (Option (Value M))). record (frame_renamed how.name frame) { registers = regs }) (sym (set-told how frame.registers (number_of dst) v))
 
 chosen-told : {N M : Type 0} → (how : Telling N M) → (t : Bool) (to : ℕ) (frame : Frame N)
-    → cond t (Traps FramePointerWritten) (Goes Nothing to (frame_renamed how.name frame)) ≡ effect_told how (cond t (Traps FramePointerWritten) (Goes Nothing to frame))
+    → cond t (Traps FramePointerWritten) (Goes Nothing to (frame_renamed how.name frame))
+    ≡ effect_told how (cond t (Traps FramePointerWritten) (Goes Nothing to frame))
 chosen-told how true to frame = refl
 chosen-told how false to frame = refl
 
@@ -173,12 +180,16 @@ pub record IsToldAs {N M : Type 0} (how : Telling N M) (a : Environment N) (b : 
 
 stack_load-told : {N M : Type 0} → (how : Telling N M)
     → (a : Environment N) (b : Environment M) (frame : Frame N) (size : Size) (signed : Bool) (at : ℤ) → IsToldAs how a b frame
-    → loaded_at b.is_same (place_of at (bytes_in size)) (bytes_in size) signed (map (cell_renamed how.name) frame.stack) ≡ result_told how (loaded_at a.is_same (place_of at (bytes_in size)) (bytes_in size) signed frame.stack)
-stack_load-told how a b frame size signed at same = loaded_at-told how a.is_same b.is_same (place_of at (bytes_in size)) (bytes_in size) signed frame.stack (λ n m u v. same.names n m (cell_points frame n u) (cell_points frame m v))
+    → loaded_at b.is_same (place_of at (bytes_in size)) (bytes_in size) signed (map (cell_renamed how.name) frame.stack)
+    ≡ result_told how (loaded_at a.is_same (place_of at (bytes_in size)) (bytes_in size) signed frame.stack)
+stack_load-told how a b frame size signed at same =
+    loaded_at-told how a.is_same b.is_same (place_of at (bytes_in size)) (bytes_in size) signed frame.stack
+    (λ n m u v. same.names n m (cell_points frame n u) (cell_points frame m v))
 
 context_load-told : {N M : Type 0} → (how : Telling N M) → (context other : List ℕ) (at : ℤ) (bytes : ℕ) (signed : Bool)
     → other ≡ context
-    → read_at ContextAccess (place_in (length other) at bytes) bytes signed other ≡ result_told how (read_at ContextAccess (place_in (length context) at bytes) bytes signed context)
+    → read_at ContextAccess (place_in (length other) at bytes) bytes signed other
+    ≡ result_told how (read_at ContextAccess (place_in (length context) at bytes) bytes signed context)
 context_load-told how context other at bytes signed same =
     rw same (read_at-told how ContextAccess (place_in (length context) at bytes) bytes signed context refl)
 
@@ -190,7 +201,8 @@ object_load-told how (Ok found) at bytes signed = read_at-told how ObjectBounds 
 loaded-told : {N M : Type 0} → (how : Telling N M)
     → (a : Environment N) (b : Environment M) (frame : Frame N) (size : Size) (signed : Bool) (offset : ℤ) (x : Option (Value N))
     → IsToldAs how a b frame → ((n : N) → Names x n → HasPointer frame n)
-    → loaded b (map (cell_renamed how.name) frame.stack) size signed offset (register_renamed how.name x) ≡ result_told how (loaded a frame.stack size signed offset x)
+    → loaded b (map (cell_renamed how.name) frame.stack) size signed offset (register_renamed how.name x)
+    ≡ result_told how (loaded a frame.stack size signed offset x)
 loaded-told how a b frame size signed offset None same has = refl
 loaded-told how a b frame size signed offset (Some (Number n)) same has = refl
 loaded-told how a b frame size signed offset (Some (Pointer Stack k)) same has = stack_load-told how a b frame size signed (k +ℤ offset) same
@@ -208,24 +220,28 @@ rewritten-told how to frame (Ok stack) = refl
 
 written_at-told : {N M : Type 0} → (how : Telling N M)
     → (to : ℕ) (frame : Frame N) (name : N) (place : Option ℕ) (bytes : ℕ) (v : Value N)
-    → written_at to (frame_renamed how.name frame) (how.name name) place bytes (value_renamed how.name v) ≡ effect_told how (written_at to frame name place bytes v)
+    → written_at to (frame_renamed how.name frame) (how.name name) place bytes (value_renamed how.name v)
+    ≡ effect_told how (written_at to frame name place bytes v)
 written_at-told how to frame name None bytes v = refl
 written_at-told how to frame name (Some place) bytes (Number n) = refl
 written_at-told how to frame name (Some place) bytes (Pointer base k) = refl
 
 object_store-told : {N M : Type 0} → (how : Telling N M)
     → (to : ℕ) (frame : Frame N) (name : N) (r : Result Found Trap) (at : ℤ) (bytes : ℕ) (v : Value N)
-    → writes_object to (frame_renamed how.name frame) (how.name name) (found_told how r) at bytes (value_renamed how.name v) ≡ effect_told how (writes_object to frame name r at bytes v)
+    → writes_object to (frame_renamed how.name frame) (how.name name) (found_told how r) at bytes (value_renamed how.name v)
+    ≡ effect_told how (writes_object to frame name r at bytes v)
 object_store-told how to frame name (Err trap) at bytes v = refl
 object_store-told how to frame name (Ok found) at bytes v = written_at-told how to frame name (place_in (length found.bytes) at bytes) bytes v
 
 through-told : {N M : Type 0} → (how : Telling N M)
     → (to : ℕ) (a : Environment N) (b : Environment M) (frame : Frame N) (size : Size) (offset : ℤ) (base v : Value N)
     → IsToldAs how a b frame → ((n : N) → Names (Some base) n → HasPointer frame n)
-    → effect_of_store_through to b (frame_renamed how.name frame) size offset (value_renamed how.name base) (value_renamed how.name v) ≡ effect_told how (effect_of_store_through to a frame size offset base v)
+    → effect_of_store_through to b (frame_renamed how.name frame) size offset (value_renamed how.name base) (value_renamed how.name v)
+    ≡ effect_told how (effect_of_store_through to a frame size offset base v)
 through-told how to a b frame size offset (Number n) v same has = refl
 through-told how to a b frame size offset (Pointer Stack k) v same has =
-    rw (stored_at-told how (place_of (k +ℤ offset) (bytes_in size)) (bytes_in size) v frame.stack) (rewritten-told how to frame (stored_at (place_of (k +ℤ offset) (bytes_in size)) (bytes_in size) v frame.stack))
+    rw (stored_at-told how (place_of (k +ℤ offset) (bytes_in size)) (bytes_in size) v frame.stack)
+    (rewritten-told how to frame (stored_at (place_of (k +ℤ offset) (bytes_in size)) (bytes_in size) v frame.stack))
 through-told how to a b frame size offset (Pointer Context k) v same has = refl
 through-told how to a b frame size offset (Pointer (Object name) k) v same has =
     rw (same.objects name (has name refl)) (object_store-told how to frame name (a.object name) (k +ℤ offset) (bytes_in size) v)
@@ -233,7 +249,8 @@ through-told how to a b frame size offset (Pointer (Object name) k) v same has =
 effect_of_store-told : {N M : Type 0} → (how : Telling N M)
     → (to : ℕ) (a : Environment N) (b : Environment M) (frame : Frame N) (size : Size) (offset : ℤ) (x y : Option (Value N))
     → IsToldAs how a b frame → ((n : N) → Names x n → HasPointer frame n)
-    → effect_of_store to b (frame_renamed how.name frame) size offset (register_renamed how.name x) (register_renamed how.name y) ≡ effect_told how (effect_of_store to a frame size offset x y)
+    → effect_of_store to b (frame_renamed how.name frame) size offset (register_renamed how.name x) (register_renamed how.name y)
+    ≡ effect_told how (effect_of_store to a frame size offset x y)
 effect_of_store-told how to a b frame size offset None y same has = refl
 effect_of_store-told how to a b frame size offset (Some base) None same has = refl
 effect_of_store-told how to a b frame size offset (Some base) (Some v) same has = through-told how to a b frame size offset base v same has
@@ -242,7 +259,9 @@ effect_of_store-told how to a b frame size offset (Some base) (Some v) same has 
 
 unset-told : {N M : Type 0} → (how : Telling N M) → (frame : Frame N) (r : Reg)
     → unset (frame_renamed how.name frame) r ≡ frame_renamed how.name (unset frame r)
-unset-told {N} {M} how frame r = ap (λ (registers : List (Option (Value M))). record (frame_renamed how.name frame) { registers = registers }) (sym (map-set (register_renamed how.name) frame.registers (number_of r) None))
+unset-told {N} {M} how frame r =
+    ap (λ (registers : List (Option (Value M))). record (frame_renamed how.name frame) { registers = registers })
+    (sym (map-set (register_renamed how.name) frame.registers (number_of r) None))
 
 arguments-told : {N M : Type 0} → (how : Telling N M) → (frame : Frame N)
     → without_arguments (frame_renamed how.name frame) ≡ frame_renamed how.name (without_arguments frame)
@@ -271,14 +290,18 @@ effect_of_new-told : {N M : Type 0} → (how : Telling N M)
     → (to : ℕ) (a : Environment N) (b : Environment M) (frame : Frame N) (x : Option (Value N)) → b.kinds ≡ a.kinds
     → effect_of_new to b (frame_renamed how.name frame) (register_renamed how.name x) ≡ effect_told how (effect_of_new to a frame x)
 effect_of_new-told how to a b frame None same = refl
-effect_of_new-told how to a b frame (Some (Number kind)) same = rw (same, goes-told how (Ask kind) to (without_arguments frame) (without_arguments (frame_renamed how.name frame)) (arguments-told how frame)) (or_bad-told how (nat_lt kind a.kinds) (Goes (Ask kind) to (without_arguments frame)))
+effect_of_new-told how to a b frame (Some (Number kind)) same =
+    rw (same, goes-told how (Ask kind) to (without_arguments frame) (without_arguments (frame_renamed how.name frame)) (arguments-told how frame))
+    (or_bad-told how (nat_lt kind a.kinds) (Goes (Ask kind) to (without_arguments frame)))
 effect_of_new-told how to a b frame (Some (Pointer base k)) same = refl
 
 effect_of_freeing-told : {N M : Type 0} → (how : Telling N M)
     → (to : ℕ) (frame : Frame N) (name : N) (r : Result Found Trap) (k : ℤ)
     → effect_of_freeing to (frame_renamed how.name frame) (how.name name) (found_told how r) k ≡ effect_told how (effect_of_freeing to frame name r k)
 effect_of_freeing-told how to frame name (Err trap) k = refl
-effect_of_freeing-told how to frame name (Ok found) k = rw (goes-told how (Free name) to (with_zero frame) (with_zero (frame_renamed how.name frame)) (zero-told how frame)) (or_bad-told how (int_eq k (pos 0)) (Goes (Free name) to (with_zero frame)))
+effect_of_freeing-told how to frame name (Ok found) k =
+    rw (goes-told how (Free name) to (with_zero frame) (with_zero (frame_renamed how.name frame)) (zero-told how frame))
+    (or_bad-told how (int_eq k (pos 0)) (Goes (Free name) to (with_zero frame)))
 
 effect_of_free-told : {N M : Type 0} → (how : Telling N M)
     → (to : ℕ) (a : Environment N) (b : Environment M) (frame : Frame N) (x : Option (Value N)) → IsToldAs how a b frame
@@ -294,23 +317,29 @@ effect_of_free-told how to a b frame (Some (Pointer (Object name) k)) same has =
 effect_of_emit-told : {N M : Type 0} → (how : Telling N M) → (to : ℕ) (frame : Frame N) (x : Option (Value N))
     → effect_of_emit to (frame_renamed how.name frame) (register_renamed how.name x) ≡ effect_told how (effect_of_emit to frame x)
 effect_of_emit-told how to frame None = refl
-effect_of_emit-told how to frame (Some (Number n)) = goes-told how Nothing to (with_output n (with_zero frame)) (with_output n (with_zero (frame_renamed how.name frame))) (ap (with_output n) (zero-told how frame))
+effect_of_emit-told how to frame (Some (Number n)) =
+    goes-told how Nothing to (with_output n (with_zero frame)) (with_output n (with_zero (frame_renamed how.name frame)))
+    (ap (with_output n) (zero-told how frame))
 effect_of_emit-told how to frame (Some (Pointer base k)) = refl
 
 exchanges-told : {N M : Type 0} → (how : Telling N M) → (to : ℕ) (frame : Frame N) (shelf : ℕ) (given : Option N) (allowed : Bool)
     → exchanges to (frame_renamed how.name frame) shelf (option_map how.name given) allowed ≡ effect_told how (exchanges to frame shelf given allowed)
-exchanges-told how to frame shelf given allowed = rw (goes-told how (Exchange shelf given) to (without_arguments frame) (without_arguments (frame_renamed how.name frame)) (arguments-told how frame)) (or_bad-told how allowed (Goes (Exchange shelf given) to (without_arguments frame)))
+exchanges-told how to frame shelf given allowed =
+    rw (goes-told how (Exchange shelf given) to (without_arguments frame) (without_arguments (frame_renamed how.name frame)) (arguments-told how frame))
+    (or_bad-told how allowed (Goes (Exchange shelf given) to (without_arguments frame)))
 
 giving-told : {N M : Type 0} → (how : Telling N M)
     → (to : ℕ) (frame : Frame N) (known : Bool) (shelf : ℕ) (name : N) (r : Result Found Trap) (k : ℤ)
-    → effect_of_giving to (frame_renamed how.name frame) known shelf (how.name name) (found_told how r) k ≡ effect_told how (effect_of_giving to frame known shelf name r k)
+    → effect_of_giving to (frame_renamed how.name frame) known shelf (how.name name) (found_told how r) k
+    ≡ effect_told how (effect_of_giving to frame known shelf name r k)
 giving-told how to frame known shelf name (Err trap) k = refl
 giving-told how to frame known shelf name (Ok found) k = exchanges-told how to frame shelf (Some name) (known && ((found.kind == shelf) && int_eq k (pos 0)))
 
 swapping-told : {N M : Type 0} → (how : Telling N M)
     → (to : ℕ) (a : Environment N) (b : Environment M) (frame : Frame N) (known : Bool) (shelf : ℕ) (given : Value N)
     → IsToldAs how a b frame → ((n : N) → Names (Some given) n → HasPointer frame n)
-    → effect_of_swapping to b (frame_renamed how.name frame) known shelf (value_renamed how.name given) ≡ effect_told how (effect_of_swapping to a frame known shelf given)
+    → effect_of_swapping to b (frame_renamed how.name frame) known shelf (value_renamed how.name given)
+    ≡ effect_told how (effect_of_swapping to a frame known shelf given)
 swapping-told how to a b frame known shelf (Number n) same has = exchanges-told how to frame shelf None (known && (n == 0))
 swapping-told how to a b frame known shelf (Pointer Stack k) same has = refl
 swapping-told how to a b frame known shelf (Pointer Context k) same has = refl
@@ -320,7 +349,8 @@ swapping-told how to a b frame known shelf (Pointer (Object name) k) same has =
 effect_of_swap-told : {N M : Type 0} → (how : Telling N M)
     → (to : ℕ) (a : Environment N) (b : Environment M) (frame : Frame N) (x y : Option (Value N)) → IsToldAs how a b frame
     → ((n : N) → Names y n → HasPointer frame n)
-    → effect_of_swap to b (frame_renamed how.name frame) (register_renamed how.name x) (register_renamed how.name y) ≡ effect_told how (effect_of_swap to a frame x y)
+    → effect_of_swap to b (frame_renamed how.name frame) (register_renamed how.name x) (register_renamed how.name y)
+    ≡ effect_told how (effect_of_swap to a frame x y)
 effect_of_swap-told how to a b frame None y same has = refl
 effect_of_swap-told how to a b frame (Some shelf) None same has = refl
 effect_of_swap-told how to a b frame (Some (Number n)) (Some given) same has =
@@ -342,23 +372,36 @@ effect_of_call-told how (Some helper.Swap) to a b frame same =
 effect-told : {N M : Type 0} → (how : Telling N M) → (i : Insn) (pc : ℕ) (a : Environment N) (b : Environment M) (frame : Frame N)
     → IsToldAs how a b frame → effect i pc b (frame_renamed how.name frame) ≡ effect_told how (effect i pc a frame)
 effect-told how (insn.Alu width o dst src) pc a b frame same =
-    rw (read-told how frame dst, source-told how frame width src, alu-told how width o (read frame dst) (source_value frame width src)) (written-told how (pc + 1) frame dst (alu_value width o (read frame dst) (source_value frame width src)))
+    rw (read-told how frame dst, source-told how frame width src, alu-told how width o (read frame dst) (source_value frame width src))
+    (written-told how (pc + 1) frame dst (alu_value width o (read frame dst) (source_value frame width src)))
 effect-told how (insn.Sext width bits dst src) pc a b frame same =
-    rw (read-told how frame src, unary-told how (extension_at width bits) (read frame src)) (written-told how (pc + 1) frame dst (unary (extension_at width bits) (read frame src)))
+    rw (read-told how frame src, unary-told how (extension_at width bits) (read frame src))
+    (written-told how (pc + 1) frame dst (unary (extension_at width bits) (read frame src)))
 effect-told how (insn.Neg width dst) pc a b frame same =
-    rw (read-told how frame dst, unary-told how (negation_at width) (read frame dst)) (written-told how (pc + 1) frame dst (unary (negation_at width) (read frame dst)))
+    rw (read-told how frame dst, unary-told how (negation_at width) (read frame dst))
+    (written-told how (pc + 1) frame dst (unary (negation_at width) (read frame dst)))
 effect-told how (insn.Swap order bits dst) pc a b frame same =
-    rw (read-told how frame dst, unary-told how (swap_of order bits) (read frame dst)) (written-told how (pc + 1) frame dst (unary (swap_of order bits) (read frame dst)))
+    rw (read-told how frame dst, unary-told how (swap_of order bits) (read frame dst))
+    (written-told how (pc + 1) frame dst (unary (swap_of order bits) (read frame dst)))
 effect-told how (insn.Wide dst value) pc a b frame same = written-told how (pc + 2) frame dst (Ok (Number value))
 effect-told how (insn.Jump offset) pc a b frame same = effect_of_jump-told how (jump_of (insn.Jump offset) pc) frame
 effect-told how (insn.JumpFar offset) pc a b frame same = effect_of_jump-told how (jump_of (insn.JumpFar offset) pc) frame
 effect-told how (insn.Branch width condition left right offset) pc a b frame same =
-    rw (read-told how frame left, source-told how frame width right, taken-told how width condition right (read frame left) (source_value frame width right)) (effect_of_branch-told how (pc + 1) (jump_of (insn.Branch width condition left right offset) pc) frame (is_taken width condition right (read frame left) (source_value frame width right)))
+    rw (
+      read-told how frame left,
+      source-told how frame width right,
+      taken-told how width condition right (read frame left)
+          (source_value frame width right),
+    )
+    (effect_of_branch-told how (pc + 1) (jump_of (insn.Branch width condition left right offset) pc) frame
+    (is_taken width condition right (read frame left) (source_value frame width right)))
 effect-told how insn.Exit pc a b frame same = rw (read-told how frame R0, same.holds) (effect_of_exit-told how a.holds (read frame R0))
 effect-told how (insn.Load size signed dst base offset) pc a b frame same =
-    rw (read-told how frame base, loaded-told how a b frame size signed offset (read frame base) same (read_points frame base)) (written-told how (pc + 1) frame dst (loaded a frame.stack size signed offset (read frame base)))
+    rw (read-told how frame base, loaded-told how a b frame size signed offset (read frame base) same (read_points frame base))
+    (written-told how (pc + 1) frame dst (loaded a frame.stack size signed offset (read frame base)))
 effect-told how (insn.Store size base offset src) pc a b frame same =
-    rw (read-told how frame base, source-told how frame W64 src) (effect_of_store-told how (pc + 1) a b frame size offset (read frame base) (source_value frame W64 src) same (read_points frame base))
+    rw (read-told how frame base, source-told how frame W64 src)
+    (effect_of_store-told how (pc + 1) a b frame size offset (read frame base) (source_value frame W64 src) same (read_points frame base))
 effect-told how (insn.Call number) pc a b frame same = effect_of_call-told how (helper_of number) (pc + 1) a b frame same
 
 pub effect_at-told : {N M : Type 0} → (how : Telling N M)

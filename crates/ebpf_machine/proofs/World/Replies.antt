@@ -11,7 +11,8 @@ use Rattle.ebpf_machine.specs.World.{Status, Going}
 use Rattle.ebpf_machine.specs.Events.{Unasked}
 use Rattle.ebpf_machine.specs.Alone.{Replies, replies_from}
 use Rattle.ebpf_machine.specs.Replies.{replies_of, more_than}
-use Rattle.ebpf_machine.specs.View.{RunView, environment_of_view, done_by, effect_of_view, stepped_from, stepped, answered, exchanged, without_given, CallResult, Null, Granted, Empty, Shelved, reply_in}
+use Rattle.ebpf_machine.specs.View.{RunView, environment_of_view, done_by, effect_of_view, stepped_from, stepped, answered, exchanged}
+use Rattle.ebpf_machine.specs.View.{without_given, CallResult, Null, Granted, Empty, Shelved, reply_in}
 use Rattle.ebpf_machine.specs.Step.{asking_in}
 use Rattle.ebpf_machine.proofs.World.Asking.{AsksNew, AsksShelf, asked_goes}
 
@@ -115,15 +116,16 @@ shelf_heard v result shelf going asks = does (heard_by_swap result) ∙ heard re
 
 pub replies_swapped : (v : RunView) (result : CallResult) (shelf : ℕ) → v.status ≡ Going → AsksShelf v shelf
     → replies_of (stepped result v) ≡ more_than (replies_of v) (one_swapped result)
-replies_swapped v result shelf going asks = ap replies_of (stepped_going v result going ∙ ap (λ (e : Effect ℕ). done_by e result v) asks.does) ∙ told result where
-  nothing_taken : (answers : List Reply) → replies_from answers v.taken ≡ replies_from answers (v.taken ++ [])
-  nothing_taken answers = ap (replies_from answers) (sym (append-nil v.taken))
+replies_swapped v result shelf going asks =
+    ap replies_of (stepped_going v result going ∙ ap (λ (e : Effect ℕ). done_by e result v) asks.does) ∙ told result where
+      nothing_taken : (answers : List Reply) → replies_from answers v.taken ≡ replies_from answers (v.taken ++ [])
+      nothing_taken answers = ap (replies_from answers) (sym (append-nil v.taken))
 
-  few : (declared held : ℕ) → held < declared → nat_le declared held ≡ false
-  few declared held lt = grind (arith, nat_tests)
+      few : (declared held : ℕ) → held < declared → nat_le declared held ≡ false
+      few declared held lt = grind (arith, nat_tests)
 
-  told : (result : CallResult) → replies_of (exchanged result asks.to asks.after shelf asks.given v) ≡ more_than (replies_of v) (one_swapped result)
-  told Null = nothing_taken (v.replies ++ reply.Empty ∷ [])
-  told Granted = nothing_taken (v.replies ++ reply.Empty ∷ [])
-  told Empty = nothing_taken (v.replies ++ reply.Empty ∷ [])
-  told (Shelved bytes) = let room = few v.subject.decl.held (length (without_given asks.given v.objects)) asks.room in rw room refl
+      told : (result : CallResult) → replies_of (exchanged result asks.to asks.after shelf asks.given v) ≡ more_than (replies_of v) (one_swapped result)
+      told Null = nothing_taken (v.replies ++ reply.Empty ∷ [])
+      told Granted = nothing_taken (v.replies ++ reply.Empty ∷ [])
+      told Empty = nothing_taken (v.replies ++ reply.Empty ∷ [])
+      told (Shelved bytes) = let room = few v.subject.decl.held (length (without_given asks.given v.objects)) asks.room in rw room refl

@@ -1,6 +1,7 @@
 -- What is on the shelves of a world after an event: what a run gave, on the shelf of its exchange, and what was there, on the
 -- others.
-use Rattle.std.proofs.Common.{◌≡◌, ◌≢◌, ◌⊎◌, inl, inr, ℕ, Bool, true, false, cond, not, ◌&&◌, List, [], ◌∷◌, ◌++◌, length, filter, Option, Some, None, option_map, refl, sym, ap, ◌∙◌, arith, pos}
+use Rattle.std.proofs.Common.{◌≡◌, ◌≢◌, ◌⊎◌, inl, inr, ℕ, Bool, true, false, cond, not, ◌&&◌, List, [], ◌∷◌, ◌++◌, length, filter, Option, Some}
+use Rattle.std.proofs.Common.{None, option_map, refl, sym, ap, ◌∙◌, arith, pos}
 use Rattle.std.specs.Prelude.{Contains, ◌==◌, nat_le}
 use Rattle.std.specs.List.{find}
 use Rattle.std.proofs.lemmas.Bool.{cases_eq, eqb-true, eq-eqb, ne_eqb, false_from_ne_true}
@@ -14,8 +15,10 @@ use Rattle.ebpf_machine.specs.Values.{TooManyObjects, Frame}
 use Rattle.ebpf_machine.specs.Effect.{Nothing, Write, Ask, Free, Exchange, Effect, Goes, Ends, Traps}
 use Rattle.ebpf_machine.specs.declared.answer.Answer.{Answer}
 use Rattle.ebpf_machine.specs.declared.answer.Answer.TheVariants.{Absent, Null, Slot}
-use Rattle.ebpf_machine.specs.World.{Name, World, Running, Owner, Holder, Run, Shelf, Shelved, is_home, is_run, is_call, is_shelf, standing, shelved_at, shelved_in, held_by, holds_of, image_at, kind_in, name_of}
-use Rattle.ebpf_machine.specs.Events.{under_way, with_run, with_bytes, with_owner, without_owner, without_shelved, put_on, fetched, shelf_told, exchanged, moved_to, trapped, replied, granted, done_by}
+use Rattle.ebpf_machine.specs.World.{Name, World, Running, Owner, Holder, Run, Shelf, Shelved, is_home, is_run, is_call, is_shelf, standing}
+use Rattle.ebpf_machine.specs.World.{shelved_at, shelved_in, held_by, holds_of, image_at, kind_in, name_of}
+use Rattle.ebpf_machine.specs.Events.{under_way, with_run, with_bytes, with_owner, without_owner, without_shelved, put_on, fetched, shelf_told}
+use Rattle.ebpf_machine.specs.Events.{exchanged, moved_to, trapped, replied, granted, done_by}
 use Rattle.ebpf_machine.specs.View.{ObjectView, call_of, object_in, view_of, slots_in, without_given}
 use Rattle.ebpf_machine.specs.Step.{shelved_given, standing_then, name_given, standing_seen}
 use Rattle.ebpf_machine.specs.Sound.{IsOwned}
@@ -23,7 +26,8 @@ use Rattle.ebpf_machine.proofs.Lists.ListLemmas.{IsFound, Contains-filter, Conta
 use Rattle.ebpf_machine.proofs.Rules.Next.{HasRoom}
 use Rattle.ebpf_machine.proofs.World.Owners.{owner_of, is_shelf-own, held_owner, slot_of_call, holder_of_slot, not_home}
 use Rattle.ebpf_machine.proofs.World.Moves.{owned_by}
-use Rattle.ebpf_machine.proofs.World.Exchanges.{and_false, stays_off, IsOwnGiven, stands, standing_there, off_shelf, shelf_is_no_run, fetched_off, call_given, given_slot, slot_held, held_without, held_put, objects_left}
+use Rattle.ebpf_machine.proofs.World.Exchanges.{and_false, stays_off, IsOwnGiven, stands, standing_there, off_shelf, shelf_is_no_run, fetched_off}
+use Rattle.ebpf_machine.proofs.World.Exchanges.{call_given, given_slot, slot_held, held_without, held_put, objects_left}
 use Rattle.ebpf_machine.proofs.World.ObjectsSeen.{objects_of}
 use Rattle.ebpf_machine.proofs.World.Shelving.{none_found, find_last}
 use Rattle.ebpf_machine.proofs.World.Acts.{act_seen, effect_seen, IsOwnEffect}
@@ -49,10 +53,12 @@ standing_granted : (w : World) (run at slot shelf : ℕ) → standing (with_owne
 standing_granted w run at slot shelf = find_pushed (λ (o : Owner). is_shelf shelf o.holder) w.owners (owned_by slot (Run run at)) refl
 
 standing_given : (w : World) (run : ℕ) (name : Name) (shelf : ℕ) → standing (without_owner run name w) shelf ≡ standing w shelf
-standing_given w run name shelf = find_filtered (λ (o : Owner). is_shelf shelf o.holder) (λ (o : Owner). not ((o.slot == name.slot) && is_call run name.call o.holder)) w.owners (λ o on. stays o.slot o.holder on) where
-  stays : (slot : ℕ) (h : Holder) → is_shelf shelf h ≡ true → not ((slot == name.slot) && is_call run name.call h) ≡ true
-  stays slot (Run r at) on = absurd (cc)
-  stays slot (Shelf s) on = ap not (and_false (slot == name.slot))
+standing_given w run name shelf =
+    find_filtered (λ (o : Owner). is_shelf shelf o.holder) (λ (o : Owner). not ((o.slot == name.slot) && is_call run name.call o.holder)) w.owners
+    (λ o on. stays o.slot o.holder on) where
+      stays : (slot : ℕ) (h : Holder) → is_shelf shelf h ≡ true → not ((slot == name.slot) && is_call run name.call h) ≡ true
+      stays slot (Run r at) on = absurd (cc)
+      stays slot (Shelf s) on = ap not (and_false (slot == name.slot))
 
 -- what is on another shelf stays
 another_shelf : (shelf k : ℕ) (h : Holder) → shelf ≢ k → is_shelf shelf h ≡ true → is_shelf k h ≡ false
@@ -113,11 +119,15 @@ shelf_granted : (w : World) (run : ℕ) (r : Running) (slot to kind : ℕ) (fram
     → shelved_in (granted slot w (under_way run r to frame) kind) shelf ≡ shelved_in w shelf
 shelf_granted w run r slot to kind frame shelf home = by (nat_le r.subject.decl.held (holds_of w run)) where
   by : (t : Bool)
-      → shelved_in (cond t (with_run w run (trapped TooManyObjects r)) (with_owner slot (Run run r.pc) (with_bytes slot (image_at w.kinds kind) (with_run w run (replied kind reply.Granted (Pointer (Object (name_of slot r.pc)) (pos 0)) to frame r))))) shelf ≡ shelved_in w shelf
+      → shelved_in (cond t (with_run w run (trapped TooManyObjects r))
+      (with_owner slot (Run run r.pc)
+      (with_bytes slot (image_at w.kinds kind)
+      (with_run w run (replied kind reply.Granted (Pointer (Object (name_of slot r.pc)) (pos 0)) to frame r))))) shelf ≡ shelved_in w shelf
   by true = refl
   by false =
       let after = with_owner slot (Run run r.pc) (with_bytes slot (image_at w.kinds kind) w) in
-      shelf_stays w after shelf (standing_granted w run r.pc slot shelf) (λ o among on. bytes_elsewhere w slot (image_at w.kinds kind) o.slot (not_home w o slot home among))
+      shelf_stays w after shelf (standing_granted w run r.pc slot shelf)
+      (λ o among on. bytes_elsewhere w slot (image_at w.kinds kind) o.slot (not_home w o slot home among))
 
 -- ---- an exchange
 
@@ -140,7 +150,8 @@ shelf_put w v run k given nobody elsewhere bytes shelf = by (cases_eq shelf k) w
   away : (given : Option Name) → shelf ≢ k → shelved_in (put_on given k run v) shelf ≡ shelved_in w shelf
   away None ne = shelf_stays w v shelf (elsewhere shelf ne) (λ o among on. ap (λ (f : ℕ → List ℕ). f o.slot) bytes)
   away (Some name) ne =
-      shelf_stays w (put_on (Some name) k run v) shelf (standing_elsewhere (without_owner run name v) name.slot k shelf ne ∙ standing_given v run name shelf ∙ elsewhere shelf ne)
+      shelf_stays w (put_on (Some name) k run v) shelf
+      (standing_elsewhere (without_owner run name v) name.slot k shelf ne ∙ standing_given v run name shelf ∙ elsewhere shelf ne)
       (λ o among on. ap (λ (f : ℕ → List ℕ). f o.slot) bytes)
 
   by : (shelf ≡ k) ⊎ (shelf ≢ k) → shelved_in (put_on given k run v) shelf ≡ cond (shelf == k) (shelved_given w given) (shelved_in w shelf)
@@ -153,18 +164,21 @@ has_room : (w : World) (run : ℕ) (r : Running) (k : ℕ) (given : Option Name)
     → nat_le r.subject.decl.held (holds_of (put_on given k run w) run) ≡ false
 has_room w run r k given owned own room =
     let many : holds_of (put_on given k run w) run ≡ length (without_given (call_given given) (objects_of w run)) =
-    ap (λ (os : List Owner). length os) (held_put w run k given (given_slot w run k given owned own)) ∙ sym (length-map (held_without given (held_by w run)) (object_in w)) ∙ ap (λ (os : List ObjectView). length os) (objects_left w given (held_by w run)) in
+    ap (λ (os : List Owner). length os) (held_put w run k given (given_slot w run k given owned own))
+    ∙ sym (length-map (held_without given (held_by w run)) (object_in w)) ∙ ap (λ (os : List ObjectView). length os) (objects_left w given (held_by w run)) in
     let few = room.1 in
     grind (arith, nat_tests)
 
 shelf_exchanged : (w : World) (run : ℕ) (r : Running) (to k : ℕ) (frame : Frame Name) (given : Option Name) → IsOwned w
     → IsOwnGiven w run k given → HasRoom (view_of w run r) (Exchange k (call_given given))
-    → (shelf : ℕ) → shelved_in (exchanged (standing w k) w (under_way run r to frame) k given) shelf ≡ cond (shelf == k) (shelved_given w given) (shelved_in w shelf)
+    → (shelf : ℕ) → shelved_in (exchanged (standing w k) w (under_way run r to frame) k given) shelf
+    ≡ cond (shelf == k) (shelved_given w given) (shelved_in w shelf)
 shelf_exchanged w run r to k frame given owned own room shelf = by (standing w k) (stands w k) where
   by : (o : Option Owner) → IsFound (λ (p : Owner). is_shelf k p.holder) w.owners o
       → shelved_in (exchanged o w (under_way run r to frame) k given) shelf ≡ cond (shelf == k) (shelved_given w given) (shelved_in w shelf)
   by None none =
-      shelf_put w (with_run w run (replied k reply.Empty (Number 0) to frame r)) run k given (λ p among. off_shelf k p (none p among)) (λ s ne. refl) refl shelf
+      shelf_put w (with_run w run (replied k reply.Empty (Number 0) to frame r)) run k given (λ p among. off_shelf k p (none p among))
+      (λ s ne. refl) refl shelf
   by (Some o) found =
       let on = standing_there w k o found in
       let fits = has_room w run r k given owned own room in
@@ -187,7 +201,8 @@ shelves_done w run r (Goes Nothing to frame) answer owned own room shelf = refl
 shelves_done w run r (Goes (Write name at bytes) to frame) answer owned own room shelf =
     shelf_written w (with_run w run (moved_to to frame r)) run name (patched (w.bytes name.slot) at bytes) shelf owned own.0 refl refl
 shelves_done w run r (Goes (Free name) to frame) answer owned own room shelf =
-    shelf_written w (without_owner run name (with_run w run (moved_to to frame r))) run name (image_at w.kinds (kind_in w name.slot)) shelf owned own (standing_given w run name shelf) refl
+    shelf_written w (without_owner run name (with_run w run (moved_to to frame r))) run name (image_at w.kinds (kind_in w name.slot)) shelf owned own
+    (standing_given w run name shelf) refl
 shelves_done w run r (Goes (Exchange k given) to frame) answer owned own room shelf = shelf_exchanged w run r to k frame given owned own.1 room shelf
 shelves_done w run r (Goes (Ask kind) to frame) Absent owned own room shelf = refl
 shelves_done w run r (Goes (Ask kind) to frame) Null owned own room shelf = refl

@@ -14,4 +14,9 @@ pub returns-clause-room : goal.returns-clause-room
 returns-clause-room g c = λ subject pc called room.
     let added = one_added subject.program pc _ _ called room.output in
     let long : length c.push_reserved.new.self.items ≡ length c.args.parts.now.output.items + 1 = search rules in
-    record { output = omega (arith, added, long, c.push_reserved.ensures.capacity); replies = behind subject.program pc _ _ room.replies; taken = taken_behind subject.program pc _ _ _ room.taken; held = room.held }
+    record {
+      output = omega (arith, added, long, c.push_reserved.ensures.capacity);
+      replies = behind subject.program pc _ _ room.replies;
+      taken = taken_behind subject.program pc _ _ _ room.taken;
+      held = room.held;
+    }

@@ -14,4 +14,9 @@ returns-clause-room g c =
     let room = c.requires.room in
     let added = one_added c.args.verified.now.program c.args.parts.now.pc _ _ c.requires.called room.replies in
     let long : length c.push_reserved-2.new.self.items ≡ length c.args.parts.now.replies.items + 1 = search rules in
-    record { output = behind c.args.verified.now.program c.args.parts.now.pc _ _ room.output; replies = omega (arith, added, long, c.push_reserved-2.ensures.capacity); taken = room.taken; held = search rules }
+    record {
+      output = behind c.args.verified.now.program c.args.parts.now.pc _ _ room.output;
+      replies = omega (arith, added, long, c.push_reserved-2.ensures.capacity);
+      taken = room.taken;
+      held = search rules;
+    }

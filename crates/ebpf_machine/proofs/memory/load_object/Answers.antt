@@ -14,11 +14,19 @@ place_of-place-requires g c = read_held _ _ _ _ _ _ c.requires.loads
 
 pub load_bytes-requires : goal.load_bytes-requires
 load_bytes-requires g c =
-    let from = to_z-of_z w64 c.args.from c.ranges.from in
-    (ObjectBounds, rw from (subst IsResult (read_there _ _ c.place_of-place.result c.args.call c.index-held-place.result c.bytes.result.now (c.args.from +ℤ c.args.load.offset) (bytes_in c.args.load.size) c.args.load.signed c.place_of-place.ensures.inside (c.place_of-place.ensures.value _) c.place_of-place.ensures.first c.bytes.ensures) c.requires.loads))
+    let from = to_z-of_z w64 c.args.from c.ranges.from in (
+      ObjectBounds,
+      rw from (subst IsResult
+          (read_there _ _ c.place_of-place.result c.args.call c.index-held-place.result c.bytes.result.now (c.args.from +ℤ c.args.load.offset)
+          (bytes_in c.args.load.size) c.args.load.signed c.place_of-place.ensures.inside
+          (c.place_of-place.ensures.value _) c.place_of-place.ensures.first c.bytes.ensures) c.requires.loads),
+    )
 
 pub returns : goal.returns
 returns g c =
     let from = to_z-of_z w64 c.args.from c.ranges.from in
-    read_there _ _ c.place_of-place.result c.args.call c.index-held-place.result c.bytes.result.now (c.args.from +ℤ c.args.load.offset) (bytes_in c.args.load.size) c.args.load.signed c.place_of-place.ensures.inside (c.place_of-place.ensures.value _) c.place_of-place.ensures.first c.bytes.ensures
-    ∙ subst (λ (k : ℤ). read_at {N = ℕ} ObjectBounds (place_in (length c.bytes.result.now) (k +ℤ c.args.load.offset) (bytes_in c.args.load.size)) (bytes_in c.args.load.size) c.args.load.signed c.bytes.result.now ≡ Ok (Number c.load_bytes.result)) from (c.load_bytes.ensures ObjectBounds)
+    read_there _ _ c.place_of-place.result c.args.call c.index-held-place.result c.bytes.result.now (c.args.from +ℤ c.args.load.offset)
+    (bytes_in c.args.load.size) c.args.load.signed c.place_of-place.ensures.inside
+    (c.place_of-place.ensures.value _) c.place_of-place.ensures.first c.bytes.ensures
+    ∙ subst (λ (k : ℤ). read_at {N = ℕ} ObjectBounds (place_in (length c.bytes.result.now) (k +ℤ c.args.load.offset) (bytes_in c.args.load.size))
+    (bytes_in c.args.load.size) c.args.load.signed c.bytes.result.now ≡ Ok (Number c.load_bytes.result)) from (c.load_bytes.ensures ObjectBounds)

@@ -16,11 +16,15 @@ place_is c =
     cc
 
 there : (c : After-stack_place) → place_of (c.args.from +ℤ c.args.load.offset) (bytes_in c.args.load.size) ≡ Some c.stack_place.result
-there c = load_placed c.args.stack.now (bytes_in c.args.load.size) c.args.load.signed (c.args.from +ℤ c.args.load.offset) c.requires ∙ ap (λ (n : ℕ). Some n) (sym (place_is c))
+there c =
+    load_placed c.args.stack.now (bytes_in c.args.load.size) c.args.load.signed (c.args.from +ℤ c.args.load.offset) c.requires
+    ∙ ap (λ (n : ℕ). Some n) (sym (place_is c))
 
 pub load-requires-clause-loads : goal.load-requires-clause-loads
 load-requires-clause-loads c =
     load_fine c.args.stack.now (bytes_in c.args.load.size) c.args.load.signed (c.args.from +ℤ c.args.load.offset) c.stack_place.result (there c) c.requires
 
 pub returns : goal.returns
-returns c = load_is c.args.stack.now (bytes_in c.args.load.size) c.args.load.signed (c.args.from +ℤ c.args.load.offset) c.stack_place.result c.load.result (there (goal.at.returns c).After-stack_place) c.load.ensures
+returns c =
+    load_is c.args.stack.now (bytes_in c.args.load.size) c.args.load.signed (c.args.from +ℤ c.args.load.offset) c.stack_place.result c.load.result
+    (there (goal.at.returns c).After-stack_place) c.load.ensures

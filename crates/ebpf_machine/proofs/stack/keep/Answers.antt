@@ -10,4 +10,5 @@ returns c =
     let bases = c.told-bases in
     let offsets = c.told-offsets in
     let inside = c.requires in
-    kept c.args.pointing.now c.args.bases.now c.args.offsets.now c.args.word c.args.base c.args.offset _ (omega arith) (omega arith) (omega arith) (to_z-of_z w64 c.args.offset c.ranges.offset)
+    kept c.args.pointing.now c.args.bases.now c.args.offsets.now c.args.word c.args.base c.args.offset _ (omega arith) (omega arith) (omega arith)
+    (to_z-of_z w64 c.args.offset c.ranges.offset)
