@@ -1,0 +1,5 @@
+pub mod Unrolling
+pub mod Counting
+pub mod Ending
+pub mod Refusal
+pub mod Written
