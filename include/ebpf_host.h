@@ -13,9 +13,10 @@
  * null. No two of the pointers of one call may overlap, but for two that are only read.
  *
  * Threads. Nothing here starts a thread, takes a lock or keeps a global. A handle is used by one thread at a time, which may differ from
- * call to call where something orders the calls (a lock, a join). Threads that run at the same time have handles of their own: a machine
- * each, and by ebpf_program_share a handle each of one program. ebpf_machine_run writes the word of no handle, so the handles of several
- * threads may lie side by side, as in an array: only loads, shares into a handle, ebpf_machine_new and frees write a word.
+ * call to call where something orders the calls (a lock, a join). But a handle of a program that a function takes by const may be in any
+ * number of such calls at once, on any threads: threads that run at the same time have a machine each, and share one program's handle, or
+ * have by ebpf_program_share a handle each. ebpf_machine_run writes the word of no handle, so the handles of several threads may lie side
+ * by side, as in an array: only loads, shares into a handle, ebpf_machine_new and frees write a word.
  *
  * Memory comes from malloc, realloc and free. Where there is none, the call answers EBPF_NO_MEMORY. Not to be called from a signal
  * handler, nor between fork and exec in a process with threads. */
@@ -72,7 +73,7 @@ typedef struct ebpf_machine { void *word; } ebpf_machine;
 typedef struct ebpf_refusal {
     char code[4];    /* the code, as "V8" or "O1", followed by zeros */
     uint32_t slot;   /* the lowest slot of eight bytes that is at fault, 0 for O1 to O3 */
-    uint64_t length; /* how many bytes the sentence has, without the zero that ends it */
+    uint64_t length; /* how many bytes the text has, without the zero that ends it */
 } ebpf_refusal;
 
 /* What a run did. */
@@ -102,13 +103,14 @@ ebpf_status ebpf_program_load(ebpf_program *program, const uint8_t *bytes, size_
  *
  * EBPF_REFUSED also where the file has no such program, with the code O1 where the file can't be read, or the name is too long (more than
  * 255 bytes), O2 where no function has the name, O3 where no name is given and there are several functions, and O4 where a slot needs
- * another part of the file. The file is judged before the declaration. */
+ * another part of the file. The file is judged before the declaration. Where the file has lines of C (clang -g) that can be read, a second
+ * line of text after the sentence is the line of C that the slot came from, "  FILE:LINE:COLUMN: TEXT", and then the zero. */
 ebpf_status ebpf_program_load_elf(ebpf_program *program, const uint8_t *bytes, size_t length, const char *name, size_t name_length,
                                   uint32_t context, uint32_t held, char *text, size_t text_length, ebpf_refusal *refusal);
 
-/* Makes `other` a second handle of the same program, which is not verified again. What it held before is freed. Neither handle may be in
- * another call meanwhile, and the two must differ. EBPF_EMPTY: `program` holds nothing. EBPF_NO_MEMORY. */
-ebpf_status ebpf_program_share(ebpf_program *other, ebpf_program *program);
+/* Makes `other` a second handle of the same program, which is not verified again. What it held before is freed. The two handles must
+ * differ. EBPF_EMPTY: `program` holds nothing. EBPF_NO_MEMORY. */
+ebpf_status ebpf_program_share(ebpf_program *other, const ebpf_program *program);
 
 /* Frees a handle, which is empty then, and with the last one its program. */
 void ebpf_program_free(ebpf_program *program);
@@ -132,7 +134,7 @@ ebpf_status ebpf_machine_reap(ebpf_machine *machine);
  * contents are lost. With a limit of at least the program's number of instructions (4,096 is always enough) no run is given up.
  *
  * EBPF_CONTEXT, EBPF_EMPTY, EBPF_NO_MEMORY: nothing was run, and output and report are as they were: test the status, not the report. */
-ebpf_status ebpf_machine_run(ebpf_machine *machine, ebpf_program *program, const uint8_t *context, size_t context_length,
+ebpf_status ebpf_machine_run(ebpf_machine *machine, const ebpf_program *program, const uint8_t *context, size_t context_length,
                              uint64_t limit, uint64_t *output, size_t output_length, ebpf_report *report);
 
 /* The library's own functions take no null pointer. The names of those with a length mean these from here on, which pass one that isn't
@@ -156,7 +158,7 @@ static inline ebpf_status ebpf_program_load_elf_or_null(ebpf_program *program, c
 }
 #define ebpf_program_load_elf ebpf_program_load_elf_or_null
 
-static inline ebpf_status ebpf_machine_run_or_null(ebpf_machine *machine, ebpf_program *program, const uint8_t *context,
+static inline ebpf_status ebpf_machine_run_or_null(ebpf_machine *machine, const ebpf_program *program, const uint8_t *context,
                                                    size_t context_length, uint64_t limit, uint64_t *output, size_t output_length,
                                                    ebpf_report *report) {
     uint8_t no_context = 0;

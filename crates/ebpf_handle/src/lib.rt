@@ -5,10 +5,11 @@
 //! not cross to C, nor does one that holds such a struct, so each type that crosses has a handle of its own. Pointers are in this
 //! crate alone, and what is said of them is proved by hand.
 //!
-//! To be read in this order: `loose`, `held`, `machine`, `program`.
+//! To be read in this order: `loose`, `held`, `machine`, `program`, `view`.
 #![tactic(auto)]
 
 mod held;
 mod loose;
 pub mod machine;
 pub mod program;
+pub mod view;

@@ -11,10 +11,11 @@ ghost use Rattle.ebpf_verify.specs.Verdict.{AreRows};
 
 use crate::refusal::{LoadFault, Refusal};
 use ebpf_command::codes::RefusalCode;
-use ebpf_command::judge::{Judged, judge};
+use ebpf_command::judge::Judged;
 use ebpf_explain::why::write_why;
 use ebpf_state::kinds::kinds;
 use ebpf_verify::decl::{Decl, MAX_HELD};
+use ebpf_verify::examined::examine;
 use ebpf_verify::verified::Verified;
 use std::alloc::{AllocError, Global};
 
@@ -41,17 +42,16 @@ impl Program {
             return Err(LoadFault::Declaration);
         };
         let rows = kinds();
-        match judge(alloc, bytes, decl, &rows)? {
+        let examined = examine(alloc, bytes, decl, &rows)?;
+        let mut sentence = String::new(alloc);
+        write_why(alloc, &mut sentence, bytes, &examined, decl, &rows)?;
+        match Judged::of(examined) {
             Judged::Accepted(verified) => Ok(Program { verified }),
-            Judged::Refused { code, slot } => {
-                let mut sentence = String::new(alloc);
-                write_why(alloc, &mut sentence, bytes, decl, &rows)?;
-                Err(LoadFault::Refused(Refusal {
-                    code,
-                    slot,
-                    sentence,
-                }))
-            }
+            Judged::Refused { code, slot } => Err(LoadFault::Refused(Refusal {
+                code,
+                slot,
+                sentence,
+            })),
         }
     }
 

@@ -1,14 +1,20 @@
 -- What becomes of a function of an object file that C loads.
-use Rattle.std.specs.Prelude.{ℕ, ◌⊎◌, ◌++◌, List, codes, cond, nat_lt}
+use Rattle.std.specs.Prelude.{ℕ, ◌≡◌, ◌⊎◌, ◌+◌, ◌*◌, ◌++◌, List, [], Option, Some, None, codes, cond, nat_lt, string_bytes}
 use Rattle.ebpf_object_file.specs.declared.function.Function.{Function}
+use Rattle.ebpf_object_file.specs.declared.holding_line.HoldingLine.{HoldingLine}
 use Rattle.ebpf_object_file.specs.declared.object_fault.ObjectFault.{ObjectFault}
 use Rattle.ebpf_object_file.specs.declared.object_fault.ObjectFault.TheVariants.{Outside}
+use Rattle.ebpf_object_file.specs.declared.outside.Place.{Place}
 use Rattle.ebpf_object_file.specs.Function.{IsWanted, IsWantedFault}
+use Rattle.ebpf_object_file.specs.HoldingLine.{IsHoldingLine}
 use Rattle.ebpf_object_file.specs.Sentences.{object_code, object_sentence}
+use Rattle.ebpf_object_file.specs.Shown.{place_row}
 use Rattle.ebpf_verify.specs.Subject.{Subject}
-use Rattle.ebpf_host.specs.Loading.{IsLoaded}
+use Rattle.ebpf_command.specs.Codes.{refusal_name}
+use Rattle.ebpf_host.specs.declared.refusal.Refusal.{Refusal}
+use Rattle.ebpf_host.specs.Loading.{IsLoaded, IsRefusedAs}
 use Rattle.ebpf_host_c.specs.declared.told.Refused.{Refused}
-use Rattle.ebpf_host_c.specs.Told.{IsRefusalTold, IsTold}
+use Rattle.ebpf_host_c.specs.Told.{IsTold}
 
 -- the slot that needs another part of the file, at most the greatest number of 32 bits; 0 for the other faults
 abbrev pub fault_slot : ObjectFault → ℕ
@@ -31,8 +37,36 @@ HasFault file name = (e : ObjectFault) × IsWantedFault file name e
 abbrev pub IsFunctionLoaded : (file name : List ℕ) (context held : ℕ) → Subject → Type 0
 IsFunctionLoaded file name context held s = (f : Function) × IsWanted file name f × IsLoaded f.code.now context held s
 
+-- the line of C under a sentence, where there is one
+abbrev pub line_under : Option HoldingLine → List ℕ
+line_under None = []
+line_under (Some h) = place_row h.lines h.line
+
+-- what C is given of a refusal of a function: the sentence, and under it the line of C that holds at the slot
+pub record IsTellingOf (r : Refusal) (file : List ℕ) (p : Place) (room text : List ℕ) (told : Refused) : Type 0 where
+  pub line : Option HoldingLine
+  pub line_is : IsHoldingLine file p (p.from + 8 * r.slot) line
+  pub told_as : IsTold (refusal_name r.code) r.slot (string_bytes r.sentence ++ line_under line) room text told
+
+-- a function's slots are refused
+pub record IsRefusalOf (file : List ℕ) (f : Function) (context held : ℕ) (room text : List ℕ) (told : Refused) : Type 0 where
+  pub refusal : Refusal
+  pub is : IsRefusedAs f.code.now context held refusal
+  pub telling : IsTellingOf refusal file f.place room text told
+
+-- the line of C of a fault is that of the slot that needs another part of the file
+abbrev pub IsLineOfFault : List ℕ → ObjectFault → Option HoldingLine → Type 0
+IsLineOfFault file (Outside o) line = IsHoldingLine file o.place o.at line
+IsLineOfFault file _ line = line ≡ None
+
+-- what C is given of a fault of the file
+pub record IsFaultTold (file : List ℕ) (e : ObjectFault) (room text : List ℕ) (told : Refused) : Type 0 where
+  pub line : Option HoldingLine
+  pub line_is : IsLineOfFault file e line
+  pub told_as : IsTold (object_code e) (fault_slot e) (fault_line e ++ line_under line) room text told
+
 -- the file has the function, whose slots are refused, or has no such program
 abbrev pub IsFunctionRefused : (file name : List ℕ) (context held : ℕ) (room text : List ℕ) → Refused → Type 0
 IsFunctionRefused file name context held room text told =
-    ((f : Function) × IsWanted file name f × IsRefusalTold f.code.now context held room text told)
-    ⊎ ((e : ObjectFault) × IsWantedFault file name e × IsTold (object_code e) (fault_slot e) (fault_line e) room text told)
+    ((f : Function) × IsWanted file name f × IsRefusalOf file f context held room text told)
+    ⊎ ((e : ObjectFault) × IsWantedFault file name e × IsFaultTold file e room text told)

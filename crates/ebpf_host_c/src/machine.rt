@@ -1,10 +1,15 @@
 //! Machines, as C makes them, runs programs on them, and frees them.
 
 ghost use Rattle.std.specs.Prelude.{◌≡◌, ◌≢◌, ◌⊎◌, ◌<◌, ◌↔◌, ℕ, None, length};
+ghost use base.Fml.{Lft, Share, flft};
+ghost use types.Logic.{sem};
+ghost use denote.Struct.Lending.{lent_at};
 ghost use Rattle.std.specs.Arc.{arc_value};
 ghost use Rattle.std.specs.Option.{MatchOption};
 ghost use Rattle.vmem_arena.specs.declared.arena.TheConstants.{MAX_PAGES};
 ghost use Rattle.ebpf_host.specs.Stocks.{stock_of};
+ghost use Rattle.ebpf_handle.specs.declared.view.ProgramView.{ProgramView};
+ghost use Rattle.ebpf_handle.specs.contracts.view.ProgramView.{the_row as view_row};
 ghost use Rattle.ebpf_host_c.specs.Handles.{IsRunTold, MachineGoes, PagesStay, ShelvesStay};
 ghost use Rattle.ebpf_host_c.specs.Told.{IsReportTold};
 
@@ -12,6 +17,7 @@ use crate::status::{CONTEXT, DONE, EMPTY, NO_MEMORY, PAGES};
 use crate::told::{Reported, tell_report};
 use ebpf_handle::machine::MachineHandle;
 use ebpf_handle::program::ProgramHandle;
+use ebpf_handle::view::ProgramView;
 use ebpf_host::machine::Machine;
 use ebpf_host::program::Program;
 use ebpf_machine::run::StartFault;
@@ -64,29 +70,64 @@ pub extern "C" fn ebpf_machine_reap(machine: &mut MachineHandle) -> u32
 }
 
 /// Runs a program on a context, `limit` instructions at most, and reports what it did: by `report`, and its output by `output`, as far as
-/// there is room. It writes the word of neither handle, so that handles may lie side by side.
+/// there is room. It writes the word of neither handle, so that handles may lie side by side, and only reads that of the program.
+///
+/// # Safety
+/// The program's handle is lent for as long as the call lasts: others may read it meanwhile, as calls on other threads do, and none may
+/// write it.
 #[unsafe(no_mangle)]
-pub extern "C" fn ebpf_machine_run(
+pub unsafe extern "C" fn ebpf_machine_run(
     machine: &mut MachineHandle,
-    program: &mut ProgramHandle,
+    program: *const ProgramHandle,
     context: &[u8],
     limit: u64,
     output: &mut [u64],
     report: &mut Reported,
 ) -> u32
-    ensures report { result ≡ 0 → IsRunTold program.old.value machine.old.value machine.new.value context.now limit output.old output.new report.new }
+    // For how long the handle is lent, what shows that this lasts, and what the handle is.
+    ghost loan: { Lft × Share × ProgramView }
+    requires* lasts { sem 𝓛 (flft loan.0 loan.1) }
+    requires* lent { sem 𝓛 (lent_at view_row program loan.2 loan.0) }
+    ensures* lasts { sem 𝓛 (flft loan.0 loan.1) }
+    ensures report { result ≡ 0 → IsRunTold loan.2.value machine.old.value machine.new.value context.now limit output.old output.new report.new }
     ensures pages { MachineGoes PagesStay machine.old.value machine.new.value }
     ensures unchanged { result ≢ 0 → machine.new.value ≡ machine.old.value }
     ensures unmade { result ≢ 0 → (output.new ≡ output.old) × (report.new ≡ report.old) }
-    ensures context { result ≡ 4 → MatchOption program.old.value ⊥ (λ p. length context.now ≢ (arc_value p).verified.decl.context) }
-    ensures memory { result ≡ 6 → MatchOption program.old.value ⊥ (λ p. length context.now ≡ (arc_value p).verified.decl.context) }
-    ensures empty { MatchOption machine.old.value (result ≡ 5) (λ _. MatchOption program.old.value (result ≡ 5) (λ _. (result ≡ 0) ⊎ (result ≡ 4) ⊎ (result ≡ 6))) }
-    ensures kept { program.new.value ≡ program.old.value }
+    ensures context { result ≡ 4 → MatchOption loan.2.value ⊥ (λ p. length context.now ≢ (arc_value p).verified.decl.context) }
+    ensures memory { result ≡ 6 → MatchOption loan.2.value ⊥ (λ p. length context.now ≡ (arc_value p).verified.decl.context) }
+    ensures empty { MatchOption machine.old.value (result ≡ 5) (λ _. MatchOption loan.2.value (result ≡ 5) (λ _. (result ≡ 0) ⊎ (result ≡ 4) ⊎ (result ≡ 6))) }
+{
+    run_shown(
+        machine,
+        unsafe { &*(program as *const ProgramView) },
+        context,
+        limit,
+        output,
+        report,
+    )
+}
+
+// The same with a program's handle that is shown.
+fn run_shown(
+    machine: &mut MachineHandle,
+    program: &ProgramView,
+    context: &[u8],
+    limit: u64,
+    output: &mut [u64],
+    report: &mut Reported,
+) -> u32
+    ensures report { result ≡ 0 → IsRunTold program.now.value machine.old.value machine.new.value context.now limit output.old output.new report.new }
+    ensures pages { MachineGoes PagesStay machine.old.value machine.new.value }
+    ensures unchanged { result ≢ 0 → machine.new.value ≡ machine.old.value }
+    ensures unmade { result ≢ 0 → (output.new ≡ output.old) × (report.new ≡ report.old) }
+    ensures context { result ≡ 4 → MatchOption program.now.value ⊥ (λ p. length context.now ≢ (arc_value p).verified.decl.context) }
+    ensures memory { result ≡ 6 → MatchOption program.now.value ⊥ (λ p. length context.now ≡ (arc_value p).verified.decl.context) }
+    ensures empty { MatchOption machine.old.value (result ≡ 5) (λ _. MatchOption program.now.value (result ≡ 5) (λ _. (result ≡ 0) ⊎ (result ≡ 4) ⊎ (result ≡ 6))) }
 {
     let Some(held) = machine.get_mut() else {
         return EMPTY;
     };
-    let Some(loaded) = program.get_mut() else {
+    let Some(loaded) = program.get() else {
         return EMPTY;
     };
     run_held(held, loaded, context, limit, output, report)

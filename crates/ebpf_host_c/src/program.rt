@@ -1,19 +1,19 @@
 //! Programs, as C loads and frees them.
 
-ghost use Rattle.std.specs.Prelude.{◌≡◌, ◌≢◌, ◌⊎◌, ◌<◌, ◌≤◌, None};
+ghost use Rattle.std.specs.Prelude.{◌≡◌, ◌≢◌, ◌⊎◌, ◌<◌, ◌≤◌, None, length};
 ghost use Rattle.std.specs.Arc.{arc_value};
 ghost use Rattle.std.specs.Option.{MatchOption};
 ghost use Rattle.ebpf_host.specs.Loading.{IsLoaded};
-ghost use Rattle.ebpf_host_c.specs.Objects.{HasFault, HasFunction, IsFunctionLoaded, IsFunctionRefused};
+ghost use Rattle.ebpf_host_c.specs.Objects.{HasFault, HasFunction, IsFunctionLoaded, IsFunctionRefused, IsRefusalOf};
 ghost use Rattle.ebpf_host_c.specs.Told.{IsRefusalTold};
 
 use crate::share::keep;
 use crate::status::{DECLARATION, NO_MEMORY, REFUSED};
-use crate::told::{Refused, tell_fault, tell_refusal};
+use crate::told::{Refused, tell_fault, tell_refusal, tell_refusal_of};
 use ebpf_handle::program::ProgramHandle;
 use ebpf_host::program::Program;
 use ebpf_host::refusal::LoadFault;
-use ebpf_object_file::function::wanted_function;
+use ebpf_object_file::function::{Function, wanted_function};
 use std::alloc::{AllocError, Global};
 
 /// Loads a program, and frees what the handle held before. A refusal is reported by `refused`, and its sentence by `text` with a zero
@@ -48,7 +48,8 @@ pub extern "C" fn ebpf_program_load(
 }
 
 /// Loads a function of an object file, that of a name or the file's only one where the name is empty, and otherwise does what
-/// [`ebpf_program_load`] does. A fault of the file is reported as a refusal is.
+/// [`ebpf_program_load`] does. A fault of the file is reported as a refusal is. Under the sentence of either is the line of C that holds
+/// at the slot, where the file has lines that can be read.
 #[unsafe(no_mangle)]
 pub extern "C" fn ebpf_program_load_elf(
     alloc: Global,
@@ -71,12 +72,47 @@ pub extern "C" fn ebpf_program_load_elf(
 {
     match wanted_function(bytes, name) {
         Ok(function) => {
-            ebpf_program_load(alloc, program, function.code, context, held, text, refused)
+            load_function(
+                alloc, program, bytes, function, context, held, text, refused,
+            )
         }
-        Err(fault) => match tell_fault(alloc, fault, text, refused) {
+        Err(fault) => match tell_fault(alloc, bytes, fault, text, refused) {
             Ok(()) => REFUSED,
             Err(AllocError) => NO_MEMORY,
         },
+    }
+}
+
+// Loads a function that was found.
+fn load_function(
+    alloc: Global,
+    program: &mut ProgramHandle,
+    file: &[u8],
+    function: Function<'_>,
+    context: u32,
+    held: u32,
+    text: &mut [u8],
+    refused: &mut Refused,
+) -> u32
+    requires { function.place.from ≤ length file.now }
+    ensures loaded { result ≡ 0 → MatchOption program.new.value ⊥ (λ p. IsLoaded function.entry.code.now context held (arc_value p).verified) }
+    ensures refused { result ≡ 1 → IsRefusalOf file.now function.entry context held text.old text.new refused.new }
+    ensures untold { result ≢ 1 → (text.new ≡ text.old) × (refused.new ≡ refused.old) }
+    ensures declaration { result ≡ 2 → (4096 < context) ⊎ (64 < held) }
+    ensures memory { result ≡ 6 → (context ≤ 4096) × (held ≤ 64) }
+    ensures statuses { (result ≡ 0) ⊎ (result ≡ 1) ⊎ (result ≡ 2) ⊎ (result ≡ 6) }
+    ensures kept { result ≢ 0 → program.new.value ≡ program.old.value }
+{
+    match Program::load(alloc, function.code, context, held) {
+        Ok(loaded) => keep(alloc, program, loaded),
+        Err(LoadFault::Refused(refusal)) => {
+            match tell_refusal_of(refusal, file, function.place, text, refused) {
+                Ok(()) => REFUSED,
+                Err(AllocError) => NO_MEMORY,
+            }
+        }
+        Err(LoadFault::Declaration) => DECLARATION,
+        Err(LoadFault::NoMemory) => NO_MEMORY,
     }
 }
 

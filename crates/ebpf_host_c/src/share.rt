@@ -1,12 +1,18 @@
 //! A program in a handle, and a second handle of it.
 
 ghost use Rattle.std.specs.Prelude.{◌≡◌, ◌≢◌, ◌⊎◌};
+ghost use base.Fml.{Lft, Share, flft};
+ghost use types.Logic.{sem};
+ghost use denote.Struct.Lending.{lent_at};
 ghost use Rattle.std.specs.Arc.{arc_value};
 ghost use Rattle.std.specs.Option.{MatchOption};
+ghost use Rattle.ebpf_handle.specs.declared.view.ProgramView.{ProgramView};
+ghost use Rattle.ebpf_handle.specs.contracts.view.ProgramView.{the_row as view_row};
 ghost use Rattle.ebpf_host_c.specs.Handles.{HoldTheSame};
 
 use crate::status::{DONE, EMPTY, NO_MEMORY};
 use ebpf_handle::program::ProgramHandle;
+use ebpf_handle::view::ProgramView;
 use ebpf_host::program::Program;
 use std::alloc::Global;
 use std::sync::Arc;
@@ -24,19 +30,34 @@ pub(crate) fn keep(alloc: Global, program: &mut ProgramHandle, loaded: Program) 
 }
 
 /// Lets `other` hold the program of `program` too, without verifying it again, and frees what `other` held before. Each of the two
-/// handles is then freed by itself, on any thread, and the last one frees the program.
+/// handles is then freed by itself, on any thread, and the last one frees the program. It only reads the word of `program`.
+///
+/// # Safety
+/// As for [`crate::machine::ebpf_machine_run`].
 #[unsafe(no_mangle)]
-pub extern "C" fn ebpf_program_share(
+pub unsafe extern "C" fn ebpf_program_share(
     alloc: Global,
     other: &mut ProgramHandle,
-    program: &mut ProgramHandle,
+    program: *const ProgramHandle,
 ) -> u32
-    ensures shared { result ≡ 0 → HoldTheSame program.old.value other.new.value }
-    ensures statuses { MatchOption program.old.value (result ≡ 5) (λ _. (result ≡ 0) ⊎ (result ≡ 6)) }
+    ghost loan: { Lft × Share × ProgramView }
+    requires* lasts { sem 𝓛 (flft loan.0 loan.1) }
+    requires* lent { sem 𝓛 (lent_at view_row program loan.2 loan.0) }
+    ensures* lasts { sem 𝓛 (flft loan.0 loan.1) }
+    ensures shared { result ≡ 0 → HoldTheSame loan.2.value other.new.value }
+    ensures statuses { MatchOption loan.2.value (result ≡ 5) (λ _. (result ≡ 0) ⊎ (result ≡ 6)) }
     ensures unchanged { result ≢ 0 → other.new.value ≡ other.old.value }
-    ensures kept { program.new.value ≡ program.old.value }
 {
-    match program.get_mut() {
+    share_shown(alloc, other, unsafe { &*(program as *const ProgramView) })
+}
+
+// The same with a handle that is shown.
+fn share_shown(alloc: Global, other: &mut ProgramHandle, program: &ProgramView) -> u32
+    ensures shared { result ≡ 0 → HoldTheSame program.now.value other.new.value }
+    ensures statuses { MatchOption program.now.value (result ≡ 5) (λ _. (result ≡ 0) ⊎ (result ≡ 6)) }
+    ensures unchanged { result ≢ 0 → other.new.value ≡ other.old.value }
+{
+    match program.get() {
         None => EMPTY,
         Some(held) => share_held(alloc, other, held),
     }

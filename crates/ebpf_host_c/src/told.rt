@@ -1,16 +1,17 @@
 //! What C is given: why bytes are refused, and what a run did.
 
-ghost use Rattle.std.specs.Prelude.{◌≡◌, ◌++◌, ◌∷◌, [], OnOk, OnErr, filter, is_some, length, string_bytes, unwrap_or};
+ghost use Rattle.std.specs.Prelude.{◌≡◌, ◌≤◌, ◌++◌, ◌∷◌, [], OnOk, OnErr, filter, is_some, length, string_bytes, unwrap_or};
 ghost use Rattle.ebpf_machine.specs.Whole.{is_granted, is_null, is_fetched};
 ghost use Rattle.ebpf_command.specs.Codes.{refusal_name};
-ghost use Rattle.ebpf_object_file.specs.Sentences.{object_code};
-ghost use Rattle.ebpf_host_c.specs.Objects.{fault_line, fault_slot};
+ghost use Rattle.ebpf_host_c.specs.Objects.{IsFaultTold, IsLineOfFault, IsTellingOf, fault_slot, line_under};
 ghost use Rattle.ebpf_host_c.specs.Told.{IsTold, copied, is_empty};
 
 use ebpf_host::refusal::Refusal;
 use ebpf_machine::ended::Ended;
 use ebpf_machine::report::Reply;
+use ebpf_object_file::holding_line::{HoldingLine, holding_line};
 use ebpf_object_file::object_fault::ObjectFault;
+use ebpf_object_file::outside::Place;
 use std::alloc::{AllocError, Global};
 
 /// Why bytes are refused.
@@ -22,7 +23,7 @@ pub struct Refused {
     pub code: [u8; 4],
     /// The lowest slot that is at fault, 0 where the file is.
     pub slot: u32,
-    /// How many bytes the sentence has, without the zero after it.
+    /// How many bytes the sentence and the line of C under it have, without the zero after them.
     pub length: u64,
 }
 
@@ -110,17 +111,68 @@ fn slot_of(fault: ObjectFault<'_>) -> u32
     }
 }
 
-/// Tells a fault of an object file. It fails only where an allocation fails.
+// Adds a line of C to a sentence, where there is one.
+fn add_line(sentence: &mut String, holding: Option<HoldingLine<'_>>) -> Result<(), AllocError>
+    ensures { OnOk result (string_bytes sentence.new ≡ string_bytes sentence.old ++ line_under holding.entry) }
+{
+    match holding {
+        None => Ok(()),
+        Some(holding) => write!(sentence, "{holding}"),
+    }
+}
+
+/// Tells a refusal of a function of an object file, with the line of C that holds at its slot. It fails only where an allocation fails.
+pub(crate) fn tell_refusal_of(
+    refusal: Refusal,
+    file: &[u8],
+    place: Place,
+    text: &mut [u8],
+    refused: &mut Refused,
+) -> Result<(), AllocError>
+    requires { place.from ≤ length file.now }
+    ensures told { OnOk result (IsTellingOf refusal file.now place text.old text.new refused.new) }
+    ensures unchanged { OnErr result ((text.new ≡ text.old) × (refused.new ≡ refused.old)) }
+{
+    let Refusal {
+        code,
+        slot,
+        mut sentence,
+    } = refusal;
+    let at = place.from + 8 * slot as u64;
+    add_line(&mut sentence, holding_line(file, place, at))?;
+    tell(
+        code.name(),
+        u32::from(slot),
+        sentence.as_bytes(),
+        text,
+        refused,
+    );
+    Ok(())
+}
+
+// The line of C of a fault: that of the slot that needs another part of the file.
+fn line_of_fault<'a>(file: &'a [u8], fault: ObjectFault<'_>) -> Option<HoldingLine<'a>>
+    ensures { IsLineOfFault file.now fault.entry result }
+{
+    match fault {
+        ObjectFault::Outside(outside) => holding_line(file, outside.place, outside.at),
+        _ => None,
+    }
+}
+
+/// Tells a fault of an object file, with the line of C of its slot. It fails only where an allocation fails.
 pub(crate) fn tell_fault(
     alloc: Global,
+    file: &[u8],
     fault: ObjectFault<'_>,
     text: &mut [u8],
     refused: &mut Refused,
 ) -> Result<(), AllocError>
-    ensures told { OnOk result (IsTold (object_code fault.entry) (fault_slot fault.entry) (fault_line fault.entry) text.old text.new refused.new) }
+    ensures told { OnOk result (IsFaultTold file.now fault.entry text.old text.new refused.new) }
     ensures unchanged { OnErr result ((text.new ≡ text.old) × (refused.new ≡ refused.old)) }
 {
-    let line = format!(in alloc; "  {fault}\n")?;
+    let mut line = format!(in alloc; "  {fault}\n")?;
+    add_line(&mut line, line_of_fault(file, fault))?;
     tell(fault.code(), slot_of(fault), line.as_bytes(), text, refused);
     Ok(())
 }
