@@ -3,3 +3,4 @@ pub mod FaultLemmas
 pub mod MeetingLemmas
 pub mod LostLemmas
 pub mod LossLemmas
+pub mod Looping

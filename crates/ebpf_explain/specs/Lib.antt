@@ -8,6 +8,7 @@ pub mod Losses
 pub mod Slots
 pub mod Hex
 pub mod DecodeSentences
+pub mod Loops
 pub mod FlowSentences
 pub mod Reads
 pub mod Accesses

@@ -13,18 +13,19 @@ use Rattle.ebpf_verify.specs.Comers.{comers}
 use Rattle.ebpf_verify.specs.Entry.{entry_in}
 use Rattle.ebpf_verify.specs.Subject.{Subject}
 use Rattle.ebpf_explain.specs.FlowSentences.{flow_sentence}
+use Rattle.ebpf_explain.specs.Loops.{closes_loop}
 use Rattle.ebpf_explain.specs.declared.loss.Loss.{Loss}
 use Rattle.ebpf_explain.specs.Loss.{losing, loss_sentence}
 use Rattle.ebpf_explain.specs.Meeting.{meeting_sentence}
 use Rattle.ebpf_explain.specs.VerifySentences.{verify_sentence}
 
 -- why the edges of an instruction are refused
-abbrev pub misled_at : Option Insn → (slot slots : ℕ) → FlowCode → List ℕ
-misled_at None slot slots code = []
-misled_at (Some i) slot slots code = flow_sentence slot i slots code
+abbrev pub misled_at : Option Insn → List (Option Insn) → ℕ → FlowCode → List ℕ
+misled_at None p slot code = []
+misled_at (Some i) p slot code = flow_sentence slot i (length p) (closes_loop p slot i) code
 
 abbrev pub misled_in : List (Option Insn) → ℕ → FlowCode → List ℕ
-misled_in p slot code = misled_at (insn_at p slot) slot (length p) code
+misled_in p slot code = misled_at (insn_at p slot) p slot code
 
 -- why an instruction is refused, by what comes to its slot, as a whole and state by state
 abbrev pub reason : Option Insn → EntryState → List Comer → (slot : ℕ) → VerifyCode → Decl → List KindRow → List ℕ

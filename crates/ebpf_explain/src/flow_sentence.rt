@@ -1,29 +1,28 @@
 //! Why a program's flow is refused, in a sentence.
 
 ghost use Rattle.std.specs.Prelude.{◌≡◌, ◌++◌, string_bytes, OnOk};
-ghost use Rattle.ebpf_explain.specs.FlowSentences.{flow_sentence, flow_words, jump_text};
+ghost use Rattle.ebpf_explain.specs.FlowSentences.{backward_words, flow_sentence, flow_words, jump_text};
 
 use crate::values::write_offset;
 use ebpf_flow::fault::FlowCode;
 use ebpf_insn::insn::Insn;
 use std::alloc::AllocError;
 
-/// Writes after a text why a slot is refused, as a line: its number, what is wrong with its instruction in a program of
-/// n slots, and how that is mended.
-///
-/// # Errors
-/// It fails only where an allocation fails, and some of the line may be written then.
-pub fn write_flow_sentence(
+// Writes after a text why a slot is refused, as a line: its number, what is wrong with its instruction in a program of
+// n slots, and how that is mended. A jump back closes a loop, or leads to a block that is only out of order. It fails only where an
+// allocation fails, and some of the line may be written then.
+pub(crate) fn write_flow_sentence(
     text: &mut String,
     slot: usize,
     insn: &Insn,
     slots: usize,
+    loops: bool,
     code: FlowCode,
 ) -> Result<(), AllocError>
-    ensures { OnOk result (string_bytes text.new ≡ string_bytes text.old ++ flow_sentence slot insn.now slots code) }
+    ensures { OnOk result (string_bytes text.new ≡ string_bytes text.old ++ flow_sentence slot insn.now slots loops code) }
 {
     write!(text, "  slot {slot} ")?;
-    write_words(text, insn, slots, code)?;
+    write_words(text, insn, slots, loops, code)?;
     text.push_str("\n")
 }
 
@@ -32,9 +31,10 @@ fn write_words(
     text: &mut String,
     insn: &Insn,
     slots: usize,
+    loops: bool,
     code: FlowCode,
 ) -> Result<(), AllocError>
-    ensures { OnOk result (string_bytes text.new ≡ string_bytes text.old ++ flow_words insn.now slots code) }
+    ensures { OnOk result (string_bytes text.new ≡ string_bytes text.old ++ flow_words insn.now slots loops code) }
 {
     match code {
         FlowCode::JumpOutside => {
@@ -55,9 +55,7 @@ fn write_words(
         FlowCode::JumpBackward => {
             text.push_str("jumps back by ")?;
             write_jump(text, insn)?;
-            text.push_str(
-                " slots: programs only go forward: unroll a loop, or have lay-out put the blocks in order where there is none",
-            )
+            text.push_str(backward_words(loops))
         }
         FlowCode::FallsOffEnd => text.push_str(
             "continues past the last slot: end the program with exit",
@@ -65,6 +63,17 @@ fn write_words(
         FlowCode::Unreachable => text.push_str(
             "cannot be reached from slot 0 by going forward: remove it, or make an earlier jump lead to it",
         ),
+    }
+}
+
+// How a jump back is mended.
+fn backward_words(loops: bool) -> &'static str
+    ensures { result.now ≡ backward_words loops }
+{
+    if loops {
+        " slots, which closes a loop: programs only go forward: unroll the loop"
+    } else {
+        " slots, where no path leads forward to it again: programs only go forward: have lay-out put the blocks in order"
     }
 }
 

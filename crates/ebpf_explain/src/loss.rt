@@ -5,7 +5,7 @@
 
 ghost use Rattle.std.specs.Prelude.{◌≡◌, ◌<◌, ◌++◌, length, string_bytes, IfOk, OnOk, MatchOption};
 ghost use Rattle.ebpf_verify.specs.Comers.{comers};
-ghost use Rattle.ebpf_verify.specs.Looked.{subject_of};
+ghost use Rattle.ebpf_verify.specs.Traced.{subject_of};
 ghost use Rattle.ebpf_explain.specs.Loss.{came, back, lost_in, loss_head, loss_sentence, loss_words, losing, trail_at, unset_read};
 ghost use Rattle.ebpf_explain.specs.declared.lost.Place.TheVariants.{Register};
 
@@ -17,7 +17,7 @@ use ebpf_insn::register::Reg;
 use ebpf_verify::comers::{Comer, comers_to};
 use ebpf_verify::entry::EntryState;
 use ebpf_verify::fault::VerifyCode;
-use ebpf_verify::looked::Looked;
+use ebpf_verify::trace::Trace;
 use std::alloc::{AllocError, Global};
 
 /// A register, and the slot before which its values were lost.
@@ -41,29 +41,29 @@ pub(crate) enum Trail {
 // The register that is read unset, if that is what a slot is refused for, and where its values were lost.
 pub(crate) fn loss_of(
     alloc: Global,
-    looked: &Looked,
+    trace: &Trace,
     slot: usize,
     code: VerifyCode,
 ) -> Result<Option<Loss>, AllocError>
-    ensures lost { IfOk result (λ o. o ≡ losing looked.now.flowed.now looked.now.entries.now slot code) }
-    ensures inside { IfOk result (λ o. MatchOption o Unit (λ loss. loss.at < length looked.now.entries.now)) }
+    ensures lost { IfOk result (λ o. o ≡ losing trace.now.flowed.now trace.now.entries.items slot code) }
+    ensures inside { IfOk result (λ o. MatchOption o Unit (λ loss. loss.at < length trace.now.entries.items)) }
 {
-    let Some(register) = unset_read(looked, slot, code) else {
+    let Some(register) = unset_read(trace, slot, code) else {
         return Ok(None);
     };
-    match lost_in(alloc, looked, register, slot)? {
+    match lost_in(alloc, trace, register, slot)? {
         None => Ok(None),
         Some(at) => Ok(Some(Loss { register, at })),
     }
 }
 
 // The register that is read unset.
-fn unset_read(looked: &Looked, slot: usize, code: VerifyCode) -> Option<Reg>
-    ensures { result ≡ unset_read looked.now.flowed.now looked.now.entries.now slot code }
+fn unset_read(trace: &Trace, slot: usize, code: VerifyCode) -> Option<Reg>
+    ensures { result ≡ unset_read trace.now.flowed.now trace.now.entries.items slot code }
 {
     match (
-        looked.flowed.program().at(slot),
-        looked.entries.get(slot),
+        trace.flowed.program().at(slot),
+        trace.entries.get(slot),
         code,
     ) {
         (Some(insn), Some(EntryState::Known(state)), VerifyCode::UnsetRegister) => {
@@ -76,16 +76,16 @@ fn unset_read(looked: &Looked, slot: usize, code: VerifyCode) -> Option<Reg>
 // The slot before which a register lost its values: a slot, or one that it came from.
 fn lost_in(
     alloc: Global,
-    looked: &Looked,
+    trace: &Trace,
     register: Reg,
     slot: usize,
 ) -> Result<Option<usize>, AllocError>
-    ensures lost { IfOk result (λ o. o ≡ lost_in looked.now.flowed.now looked.now.entries.now register slot) }
-    ensures inside { IfOk result (λ o. MatchOption o Unit (λ at. at < length looked.now.entries.now)) }
+    ensures lost { IfOk result (λ o. o ≡ lost_in trace.now.flowed.now trace.now.entries.items register slot) }
+    ensures inside { IfOk result (λ o. MatchOption o Unit (λ at. at < length trace.now.entries.items)) }
 {
     let mut at = slot;
-    for _step in 0..looked.entries.len() {
-        match trail_at(alloc, looked, register, at)? {
+    for _step in 0..trace.entries.len() {
+        match trail_at(alloc, trace, register, at)? {
             Trail::Here => return Ok(Some(at)),
             Trail::From(from) => at = from as usize,
             Trail::Nowhere => return Ok(None),
@@ -95,14 +95,14 @@ fn lost_in(
 }
 
 // Where a register that has no value before a slot has lost it, by what comes to the slot.
-fn trail_at(alloc: Global, looked: &Looked, register: Reg, slot: usize) -> Result<Trail, AllocError>
-    ensures trail { IfOk result (λ t. t ≡ trail_at looked.now.flowed.now looked.now.entries.now register slot) }
-    ensures inside { IfOk result (λ t. t ≡ Trail.Here → slot < length looked.now.entries.now) }
+fn trail_at(alloc: Global, trace: &Trace, register: Reg, slot: usize) -> Result<Trail, AllocError>
+    ensures trail { IfOk result (λ t. t ≡ trail_at trace.now.flowed.now trace.now.entries.items register slot) }
+    ensures inside { IfOk result (λ t. t ≡ Trail.Here → slot < length trace.now.entries.items) }
 {
-    let Some(EntryState::Known(state)) = looked.entries.get(slot) else {
+    let Some(EntryState::Known(state)) = trace.entries.get(slot) else {
         return Ok(Trail::Nowhere);
     };
-    let comers = comers_to(alloc, looked, slot)?;
+    let comers = comers_to(alloc, trace, slot)?;
     if comers.len() == 0 {
         return Ok(Trail::Nowhere);
     }
@@ -110,7 +110,7 @@ fn trail_at(alloc: Global, looked: &Looked, register: Reg, slot: usize) -> Resul
     if is_lost(place, &comers, state) {
         return Ok(Trail::Here);
     }
-    Ok(back(looked.flowed.program(), &comers, place))
+    Ok(back(trace.flowed.program(), &comers, place))
 }
 
 // The first that comes and knows nothing of a place.
@@ -140,14 +140,14 @@ fn came(program: &Program, from: u16) -> Trail
 pub(crate) fn write_loss(
     alloc: Global,
     text: &mut String,
-    looked: &Looked,
+    trace: &Trace,
     slot: usize,
     loss: Loss,
 ) -> Result<(), AllocError>
-    requires inside { loss.at < length looked.now.entries.now }
-    ensures { OnOk result (string_bytes text.new ≡ string_bytes text.old ++ loss_sentence slot loss (comers looked.now.flowed.now loss.at)) }
+    requires inside { loss.at < length trace.now.entries.items }
+    ensures { OnOk result (string_bytes text.new ≡ string_bytes text.old ++ loss_sentence slot loss (comers trace.now.flowed.now loss.at)) }
 {
-    let comers = comers_to(alloc, looked, loss.at)?;
+    let comers = comers_to(alloc, trace, loss.at)?;
     write!(text, "  slot {slot} ")?;
     write_loss_words(text, loss, &comers)?;
     text.push_str("\n")

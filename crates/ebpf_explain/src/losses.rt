@@ -9,7 +9,7 @@ use crate::lost::{Place, lost_places, write_known_there, write_place_name};
 use ebpf_state::state::State;
 use ebpf_verify::comers::{Comer, comers_to};
 use ebpf_verify::entry::EntryState;
-use ebpf_verify::looked::Looked;
+use ebpf_verify::trace::Trace;
 use std::alloc::{AllocError, Global};
 use std::marker::Model;
 
@@ -36,16 +36,16 @@ impl Model for Loss {
 /// It fails only where an allocation fails, and some may be added then.
 pub fn add_losses(
     alloc: Global,
-    looked: &Looked,
+    trace: &Trace,
     slot: usize,
     losses: &mut Vec<Loss>,
 ) -> Result<(), AllocError>
-    requires inside { slot < length looked.now.entries.now }
-    ensures { OnOk result (losses.new.items ≡ losses.old.items ++ losses_at looked.now.flowed.now looked.now.entries.now slot) }
+    requires inside { slot < length trace.now.entries.items }
+    ensures { OnOk result (losses.new.items ≡ losses.old.items ++ losses_at trace.now.flowed.now trace.now.entries.items slot) }
 {
-    match &looked.entries[slot] {
+    match &trace.entries[slot] {
         EntryState::Known(state) => {
-            let comers = comers_to(alloc, looked, slot)?;
+            let comers = comers_to(alloc, trace, slot)?;
             let places = lost_places(alloc, &comers, state)?;
             add_of_each(alloc, &places, slot, &comers, losses)
         }

@@ -1,2 +1,3 @@
 pub mod Edges
 pub mod Flow
+pub mod Followed

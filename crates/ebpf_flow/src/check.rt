@@ -6,7 +6,7 @@ ghost use Rattle.ebpf_insn.specs.declared.program.TheConstants.{MAX_SLOTS};
 ghost use Rattle.ebpf_insn.specs.Program.{insn_at, slots_in};
 ghost use Rattle.ebpf_flow.specs.declared.fault.FlowCode.{FlowCode};
 ghost use Rattle.ebpf_flow.specs.Edges.{falls, displacement_of, fall_of, jump_of, edges_at, edges_of, has_edge_to, leads_to, reached_by, is_reached};
-ghost use Rattle.ebpf_flow.specs.Flow.{jump_fault, flow_fault, flow_fault_at, IsFlowFault, LeadsForward};
+ghost use Rattle.ebpf_flow.specs.Flow.{jump_fault, flow_fault, flow_fault_at, IsFlowFault, IsFlowed, LeadsForward};
 
 use crate::edges::{Edges, edges_from};
 use crate::fault::{FlowCode, FlowFault};
@@ -25,14 +25,23 @@ pub fn check(alloc: Global, program: Program) -> Result<Flowed, FlowFault>
     ensures fine { OnOk result (flow_fault program ≡ None) }
     ensures refused { IfErr result (IsFlowFault program) }
 {
+    let edges = edges_in(alloc, &program)?;
+    Ok(Flowed { program, edges })
+}
+
+// The edges that leave each slot of a program, or why its flow is refused.
+pub(crate) fn edges_in(alloc: Global, program: &Program) -> Result<Vec<Edges>, FlowFault>
+    ensures flowed { IfOk result (λ edges. IsFlowed program.now edges.items) }
+    ensures refused { IfErr result (IsFlowFault program.now) }
+{
     let slots = program.slots();
     let mut reached = first_reached(alloc, slots)?;
     let mut edges = Vec::with_capacity(alloc, slots)?;
     for slot in 0..slots {
-        let leaving = check_slot(&program, slot, &mut reached)?;
+        let leaving = check_slot(program, slot, &mut reached)?;
         edges.push_reserved(leaving);
     }
-    Ok(Flowed { program, edges })
+    Ok(edges)
 }
 
 // A flag for each slot: only slot 0 is reached so far.

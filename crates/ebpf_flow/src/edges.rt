@@ -2,9 +2,10 @@
 
 ghost use Rattle.std.specs.Prelude.{◌≡◌, ◌≤◌, ◌<◌, ◌+◌, ℕ, ℤ, pos, negsuc, ◌+ℤ◌, ◌≤ℤ◌, Option, Some, None, length};
 ghost use Rattle.std.specs.Prelude.{IfOk, IfErr, IfSome, MatchResult, MatchOption, OnOk, false, true};
+ghost use Rattle.ebpf_insn.specs.declared.program.TheConstants.{MAX_SLOTS};
 ghost use Rattle.ebpf_insn.specs.Program.{insn_at, slots_in};
 ghost use Rattle.ebpf_insn.specs.Encoding.{IsWellFormed};
-ghost use Rattle.ebpf_flow.specs.Edges.{falls, displacement_of, fall_of, target_of, edges_of, is_reached};
+ghost use Rattle.ebpf_flow.specs.Edges.{falls, displacement_of, fall_of, jump_of, target_of, edges_of, is_reached};
 ghost use Rattle.ebpf_flow.specs.Flow.{jump_fault, fall_fault, insn_fault, LeadsForward};
 
 use crate::fault::FlowCode;
@@ -66,6 +67,41 @@ pub fn displacement_of(insn: Insn) -> Option<i64>
     }
 }
 
+/// The slot that a jump by n slots leads to, whether something is there or not; none below slot 0.
+#[inline(always)]
+pub fn target_of(slot: usize, displacement: i64) -> Option<usize>
+    requires few { slot < MAX_SLOTS }
+    requires low { negsuc 2147483647 ≤ℤ displacement }
+    requires high { displacement ≤ℤ pos 2147483647 }
+    ensures { result ≡ target_of (Some displacement) slot }
+{
+    let to = slot as i64 + 1 + displacement;
+    if to < 0 { None } else { Some(to as usize) }
+}
+
+/// The slot that the jump of an instruction leads to, whether something is there or not; none below slot 0.
+pub fn jump_of(insn: Insn, slot: usize) -> Option<usize>
+    requires { slot < MAX_SLOTS }
+    ensures { result ≡ jump_of insn slot }
+{
+    match displacement_of(insn) {
+        Some(displacement) => target_of(slot, displacement),
+        None => None,
+    }
+}
+
+/// The slot that an instruction goes on to, whether something is there or not.
+pub fn fall_of(insn: Insn, slot: usize) -> Option<usize>
+    requires { slot < MAX_SLOTS }
+    ensures { result ≡ fall_of insn slot }
+{
+    if falls(insn) {
+        Some(slot + insn.slots())
+    } else {
+        None
+    }
+}
+
 // The target of a jump by n slots, or the first code that refuses it.
 #[inline(always)]
 fn target_from(program: &Program, slot: usize, displacement: i64) -> Result<u16, FlowCode>
@@ -78,11 +114,12 @@ fn target_from(program: &Program, slot: usize, displacement: i64) -> Result<u16,
     ensures refused { IfErr result (λ code. jump_fault program.now slot (Some displacement) (target_of (Some displacement) slot) ≡ Some code) }
 {
     let slots = program.slots();
-    let to = slot as i64 + 1 + displacement;
-    if to < 0 || to >= slots as i64 {
+    let Some(to) = target_of(slot, displacement) else {
+        return Err(FlowCode::JumpOutside);
+    };
+    if to >= slots {
         return Err(FlowCode::JumpOutside);
     }
-    let to = to as usize;
     if program.at(to).is_none() {
         return Err(FlowCode::JumpIntoWide);
     }

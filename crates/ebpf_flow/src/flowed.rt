@@ -10,7 +10,7 @@ use ebpf_insn::program::Program;
 use std::marker::Model;
 
 /// A program all of whose edges lead forward to an instruction. Contracts see it as the program. Only
-/// [`crate::check::check`] makes one.
+/// [`crate::check::check`] and [`crate::followed::follow`] make one.
 #[derive(Drop)]
 pub struct Flowed {
     pub(crate) program: Program,

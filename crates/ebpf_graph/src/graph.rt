@@ -16,7 +16,7 @@ use crate::node::{write_label_line, write_mark, write_node_end, write_opening};
 use ebpf_explain::losses::{Loss, add_losses};
 use ebpf_flow::edges::Edges;
 use ebpf_insn::insn::Insn;
-use ebpf_verify::looked::Looked;
+use ebpf_verify::trace::Trace;
 use std::alloc::{AllocError, Global};
 
 /// Writes the graph of a program after a text: its nodes in the order of their slots, each followed by its edges. Where a
@@ -28,15 +28,15 @@ use std::alloc::{AllocError, Global};
 pub fn write_graph(
     alloc: Global,
     text: &mut String,
-    looked: &Looked,
+    trace: &Trace,
     refused: Option<u16>,
     states: bool,
 ) -> Result<(), AllocError>
-    ensures { OnOk result (string_bytes text.new ≡ string_bytes text.old ++ graph_of states looked.now.flowed.now looked.now.entries.now looked.now.kinds.now refused) }
+    ensures { OnOk result (string_bytes text.new ≡ string_bytes text.old ++ graph_of states trace.now.flowed.now trace.now.entries.items trace.now.kinds.now refused) }
 {
-    let drawn = what_is_drawn(alloc, looked, states)?;
+    let drawn = what_is_drawn(alloc, trace, states)?;
     text.push_str("digraph program {\n  node [shape=box, fontname=monospace];\n")?;
-    write_blocks(alloc, text, looked, &drawn, refused)?;
+    write_blocks(alloc, text, trace, &drawn, refused)?;
     text.push_str("}\n")
 }
 
@@ -52,14 +52,14 @@ struct Drawn {
 }
 
 // What is known of the blocks. It fails only where an allocation fails.
-fn what_is_drawn(alloc: Global, looked: &Looked, states: bool) -> Result<Drawn, AllocError>
-    ensures drawn { IfOk result (AreDrawn looked.now.flowed.now looked.now.entries.now) }
+fn what_is_drawn(alloc: Global, trace: &Trace, states: bool) -> Result<Drawn, AllocError>
+    ensures drawn { IfOk result (AreDrawn trace.now.flowed.now trace.now.entries.items) }
     ensures states { IfOk result (λ drawn. drawn.states ≡ states) }
 {
-    let begins = block_starts(alloc, looked.flowed)?;
+    let begins = block_starts(alloc, trace.flowed)?;
     let mut losses = Vec::new(alloc);
     if states {
-        add_block_losses(alloc, looked, &begins, &mut losses)?;
+        add_block_losses(alloc, trace, &begins, &mut losses)?;
     }
     Ok(Drawn {
         begins,
@@ -71,15 +71,15 @@ fn what_is_drawn(alloc: Global, looked: &Looked, states: bool) -> Result<Drawn, 
 // Adds what is lost where blocks begin.
 fn add_block_losses(
     alloc: Global,
-    looked: &Looked,
+    trace: &Trace,
     begins: &[bool],
     losses: &mut Vec<Loss>,
 ) -> Result<(), AllocError>
-    requires { AreBegins looked.now.flowed.now begins.now }
-    ensures { OnOk result (losses.new.items ≡ losses.old.items ++ losses_below looked.now.flowed.now looked.now.entries.now (length looked.now.entries.now)) }
+    requires { AreBegins trace.now.flowed.now begins.now }
+    ensures { OnOk result (losses.new.items ≡ losses.old.items ++ losses_below trace.now.flowed.now trace.now.entries.items (length trace.now.entries.items)) }
 {
-    for slot in 0..looked.entries.len() {
-        add_if_begins(alloc, looked, begins[slot], slot, losses)?;
+    for slot in 0..trace.entries.len() {
+        add_if_begins(alloc, trace, begins[slot], slot, losses)?;
     }
     Ok(())
 }
@@ -87,16 +87,16 @@ fn add_block_losses(
 // Adds what is lost at a slot, if a block begins there.
 fn add_if_begins(
     alloc: Global,
-    looked: &Looked,
+    trace: &Trace,
     begins: bool,
     slot: usize,
     losses: &mut Vec<Loss>,
 ) -> Result<(), AllocError>
-    requires { slot < length looked.now.entries.now }
-    ensures { OnOk result (losses.new.items ≡ losses.old.items ++ (if begins then losses_at looked.now.flowed.now looked.now.entries.now slot else [])) }
+    requires { slot < length trace.now.entries.items }
+    ensures { OnOk result (losses.new.items ≡ losses.old.items ++ (if begins then losses_at trace.now.flowed.now trace.now.entries.items slot else [])) }
 {
     if begins {
-        add_losses(alloc, looked, slot, losses)
+        add_losses(alloc, trace, slot, losses)
     } else {
         Ok(())
     }
@@ -106,17 +106,17 @@ fn add_if_begins(
 fn write_blocks(
     alloc: Global,
     text: &mut String,
-    looked: &Looked,
+    trace: &Trace,
     drawn: &Drawn,
     refused: Option<u16>,
 ) -> Result<(), AllocError>
-    requires { AreDrawn looked.now.flowed.now looked.now.entries.now drawn.now }
-    ensures { OnOk result (string_bytes text.new ≡ string_bytes text.old ++ texts_below (length looked.now.flowed.now) (slot_graph drawn.now.states looked.now.flowed.now looked.now.entries.now looked.now.kinds.now refused)) }
+    requires { AreDrawn trace.now.flowed.now trace.now.entries.items drawn.now }
+    ensures { OnOk result (string_bytes text.new ≡ string_bytes text.old ++ texts_below (length trace.now.flowed.now) (slot_graph drawn.now.states trace.now.flowed.now trace.now.entries.items trace.now.kinds.now refused)) }
 {
     let mut first = 0;
-    for slot in 0..looked.flowed.program().slots() {
+    for slot in 0..trace.flowed.program().slots() {
         first = first_slot(drawn.begins[slot], slot, first);
-        write_slot(alloc, text, looked, drawn, refused, first, slot)?;
+        write_slot(alloc, text, trace, drawn, refused, first, slot)?;
     }
     Ok(())
 }
@@ -132,25 +132,25 @@ fn first_slot(begins: bool, slot: usize, last: usize) -> usize
 fn write_slot(
     alloc: Global,
     text: &mut String,
-    looked: &Looked,
+    trace: &Trace,
     drawn: &Drawn,
     refused: Option<u16>,
     first: usize,
     slot: usize,
 ) -> Result<(), AllocError>
-    requires drawn { AreDrawn looked.now.flowed.now looked.now.entries.now drawn.now }
-    requires inside { slot < length looked.now.flowed.now }
-    requires first { first ≡ first_of_block looked.now.flowed.now slot }
-    ensures { OnOk result (string_bytes text.new ≡ string_bytes text.old ++ slot_graph drawn.now.states looked.now.flowed.now looked.now.entries.now looked.now.kinds.now refused slot) }
+    requires drawn { AreDrawn trace.now.flowed.now trace.now.entries.items drawn.now }
+    requires inside { slot < length trace.now.flowed.now }
+    requires first { first ≡ first_of_block trace.now.flowed.now slot }
+    ensures { OnOk result (string_bytes text.new ≡ string_bytes text.old ++ slot_graph drawn.now.states trace.now.flowed.now trace.now.entries.items trace.now.kinds.now refused slot) }
 {
-    let Some(insn) = looked.flowed.program().at(slot) else {
+    let Some(insn) = trace.flowed.program().at(slot) else {
         return Ok(());
     };
-    let edges = looked.flowed.successors(slot);
+    let edges = trace.flowed.successors(slot);
     let begins = drawn.begins[slot];
     write_opening(text, begins, slot)?;
     let asked = drawn.states && begins;
-    write_known_before(text, asked, looked.entries, looked.kinds, slot)?;
+    write_known_before(text, asked, &trace.entries, trace.kinds, slot)?;
     write_mark(text, refused, slot)?;
     write_label_line(alloc, text, slot, insn)?;
     let ends = ends_before(&drawn.begins, edges.fall);

@@ -12,7 +12,6 @@ use Rattle.ebpf_verify.specs.declared.comers.Comer.{Comer}
 use Rattle.ebpf_verify.specs.declared.entry.EntryState.{EntryState}
 use Rattle.ebpf_verify.specs.declared.entry.EntryState.TheVariants.{Unreached, Known, Conflict}
 use Rattle.ebpf_verify.specs.declared.fault.VerifyCode.{VerifyCode}
-use Rattle.ebpf_verify.specs.declared.trace.Trace.{Trace}
 use Rattle.ebpf_verify.specs.Comers.{along, comer_in, sent_by, comers_below}
 use Rattle.ebpf_verify.specs.Entry.{entry_of, with_edge, with_sent, ChangesEach}
 use Rattle.ebpf_verify.specs.Rules.{refusal, after_fall, after_jump}
@@ -102,8 +101,8 @@ entry_below p (suc n) k d lt =
     ]
 
 -- the slots of a trace but the last are not refused
-pub looked_at_by_trace : (s : Subject) (t : Trace) → IsTrace s t → AreLookedAt s t.entries.items
-looked_at_by_trace s t h = from_verdict (verdict s) refl t.entries.items h.entries where
+pub looked_at_by_trace : (s : Subject) (entries : List EntryState) (refused : Option (ℕ × VerifyCode)) → IsTrace s entries refused → AreLookedAt s entries
+looked_at_by_trace s entries refused h = from_verdict (verdict s) refl entries h.all where
   of_length : (n : ℕ) (es : List EntryState) → es ≡ entries_below s.program n → length es ≡ n
   of_length n es e = ap length e ∙ length-below s.program n
 

@@ -9,5 +9,6 @@ pub mod Rules
 pub mod Entry
 pub mod Verdict
 pub mod Traces
-pub mod Looked
+pub mod Traced
 pub mod Comers
+pub mod Examined

@@ -3,7 +3,6 @@ use Rattle.std.specs.Prelude.{◌≡◌, ◌<◌, ◌≤◌, ◌++◌, ℕ, zero
 use Rattle.ebpf_insn.specs.declared.insn.Insn.{Insn}
 use Rattle.ebpf_verify.specs.declared.entry.EntryState.{EntryState}
 use Rattle.ebpf_verify.specs.declared.fault.VerifyCode.{VerifyCode}
-use Rattle.ebpf_verify.specs.declared.trace.Trace.{Trace}
 use Rattle.ebpf_verify.specs.Subject.{Subject}
 use Rattle.ebpf_verify.specs.Entry.{entry_of}
 use Rattle.ebpf_verify.specs.Verdict.{verdict, refusal_at}
@@ -19,9 +18,9 @@ entries_below p zero = []
 entries_below p (suc m) = entries_below p m ++ entry_of p m ∷ []
 
 -- the verdict, and the entry of each slot that is looked at
-pub record IsTrace (s : Subject) (t : Trace) : Type 0 where
-  pub refusal : t.refusal ≡ verdict s
-  pub entries : t.entries.items ≡ entries_below s.program (looked_at (verdict s) (length s.program))
+pub record IsTrace (s : Subject) (entries : List EntryState) (refused : Option (ℕ × VerifyCode)) : Type 0 where
+  pub refusal : refused ≡ verdict s
+  pub all : entries ≡ entries_below s.program (looked_at (verdict s) (length s.program))
 
 -- these are the entries of the slots that were looked at, and none but the last of those is refused
 pub record AreLookedAt (s : Subject) (entries : List EntryState) : Type 0 where

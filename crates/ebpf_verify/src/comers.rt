@@ -9,8 +9,8 @@ ghost use Rattle.ebpf_verify.specs.Rules.{refusal};
 
 use crate::entry::EntryState;
 use crate::fault::VerifyFault;
-use crate::looked::Looked;
 use crate::propagate::pass_on;
+use crate::trace::Trace;
 use ebpf_flow::edges::Edges;
 use ebpf_insn::insn::Insn;
 use ebpf_state::state::State;
@@ -39,13 +39,13 @@ struct Sender<'a> {
 ///
 /// # Errors
 /// It fails only where an allocation fails.
-pub fn comers_to(alloc: Global, looked: &Looked, to: usize) -> Result<Vec<Comer>, AllocError>
-    requires inside { to < length looked.now.entries.now }
-    ensures { IfOk result (λ v. v.items ≡ comers looked.now.flowed.now to) }
+pub fn comers_to(alloc: Global, trace: &Trace, to: usize) -> Result<Vec<Comer>, AllocError>
+    requires inside { to < length trace.now.entries.items }
+    ensures { IfOk result (λ v. v.items ≡ comers trace.now.flowed.now to) }
 {
     let mut comers = Vec::new(alloc);
     for from in 0..to {
-        add_from(alloc, looked, from, to, &mut comers)?;
+        add_from(alloc, trace, from, to, &mut comers)?;
     }
     Ok(comers)
 }
@@ -53,25 +53,25 @@ pub fn comers_to(alloc: Global, looked: &Looked, to: usize) -> Result<Vec<Comer>
 // Adds what one slot sends to a later one that was looked at.
 fn add_from(
     alloc: Global,
-    looked: &Looked,
+    trace: &Trace,
     from: usize,
     to: usize,
     comers: &mut Vec<Comer>,
 ) -> Result<(), AllocError>
     requires before { from < to }
-    requires inside { to < length looked.now.entries.now }
-    ensures { OnOk result (comers.new.items ≡ comers.old.items ++ sent_from looked.now.flowed.now from to (entry_of looked.now.flowed.now from)) }
+    requires inside { to < length trace.now.entries.items }
+    ensures { OnOk result (comers.new.items ≡ comers.old.items ++ sent_from trace.now.flowed.now from to (entry_of trace.now.flowed.now from)) }
 {
-    let edges = looked.flowed.successors(from);
+    let edges = trace.flowed.successors(from);
     let falls = leads_to(edges.fall, to);
     let jumps = leads_to(edges.jump, to);
     if !falls && !jumps {
         return Ok(());
     }
-    match (looked.flowed.program().at(from), &looked.entries[from]) {
+    match (trace.flowed.program().at(from), &trace.entries[from]) {
         (Some(insn), EntryState::Known(state)) => {
             let sender = Sender { insn, from, state };
-            add_after(alloc, looked, &sender, jumps, falls, comers)
+            add_after(alloc, trace, &sender, jumps, falls, comers)
         }
         _ => Ok(()),
     }
@@ -91,14 +91,14 @@ fn leads_to(edge: Option<u16>, to: usize) -> bool
 // edges of their own: a fall to 0, and a jump to 1.
 fn add_after(
     alloc: Global,
-    looked: &Looked,
+    trace: &Trace,
     sender: &Sender,
     jumps: bool,
     falls: bool,
     comers: &mut Vec<Comer>,
 ) -> Result<(), AllocError>
     requires inside { sender.now.from < MAX_SLOTS }
-    requires fine { refusal looked.now.decl looked.now.kinds.now sender.now.insn.now sender.now.state.now ≡ None }
+    requires fine { refusal trace.now.decl trace.now.kinds.now sender.now.insn.now sender.now.state.now ≡ None }
     ensures { OnOk result (comers.new.items ≡ comers.old.items ++ sent_along sender.now.insn.now sender.now.from sender.now.state.now jumps falls) }
 {
     let from = sender.from;
@@ -109,8 +109,8 @@ fn add_after(
     let mut sent = two_entries(alloc)?;
     let state = sender.state.copy()?;
     let passed = pass_on(
-        looked.decl,
-        looked.kinds,
+        trace.decl,
+        trace.kinds,
         sender.insn,
         from,
         state,

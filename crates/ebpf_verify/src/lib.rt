@@ -2,11 +2,13 @@
 //!
 //! [`verify::verify`] walks a program once, in the order of its slots, and keeps for each slot what is known of every
 //! run that comes there. It refuses the lowest slot whose rule refuses what is known there; where it refuses none, it
-//! makes a [`verified::Verified`], and no run of that program traps. [`trace::trace_verdict`] says what the verdict rests on,
-//! and of a [`looked::Looked`], what a trace looked at, [`comers::comers_to`] says what each state is the join of.
+//! makes a [`verified::Verified`], and no run of that program traps. [`examined::examine`] does so from the bytes of a
+//! program on, and keeps what it refuses. [`trace::Trace::of`] says what the verdict rests on, and [`comers::comers_to`] what each of those
+//! states is the join of.
+//! [`propagate::pass_on`] is the rule of one instruction, for walks that go another way.
 //!
 //! To be read in this order: `fault`, `decl`, `pointer`, `operations`, `branches`, `memory`, `call_count`, `calls`, `rules`, `entry`,
-//! `propagate`, `verify`, `trace`, `looked`, `comers`, `verified`.
+//! `propagate`, `verify`, `verified`, `examined`, `trace`, `comers`.
 #![tactic(auto)]
 
 mod branches;
@@ -15,12 +17,12 @@ mod calls;
 pub mod comers;
 pub mod decl;
 pub mod entry;
+pub mod examined;
 pub mod fault;
-pub mod looked;
 mod memory;
 mod operations;
 mod pointer;
-mod propagate;
+pub mod propagate;
 mod rules;
 pub mod trace;
 pub mod verified;

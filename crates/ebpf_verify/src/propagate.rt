@@ -29,11 +29,16 @@ use ebpf_state::state::State;
 use std::alloc::AllocError;
 
 /// Asks the rule of an instruction. It refuses what is known before the instruction, or sends what is known after it along
-/// its edges.
+/// its edges, where each joins what came to its entry before.
+///
+/// The edges and the slot are whatever the caller says, not those of a program. `edges` has the numbers of the entries that the
+/// instruction leads to, and `slot` names the object that a call is granted, and what a fault refuses. So a walk may come to an
+/// instruction more than once, with another number each time.
 ///
 /// # Errors
-/// `Refused` with the first code that refuses the slot; `NoMemory` where an allocation fails.
-pub(crate) fn pass_on(
+/// `Refused` with that slot and the first code that refuses what is known; `NoMemory` where an allocation fails. What the entries
+/// are then isn't said.
+pub fn pass_on(
     decl: Decl,
     rows: &[KindRow],
     insn: &Insn,

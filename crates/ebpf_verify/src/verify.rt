@@ -56,12 +56,41 @@ pub fn verify(
     ensures fine { OnOk result (verdict (record { program = flowed; decl = decl; rows = rows.now }) ≡ None) }
     ensures refused { IfErr result (IsVerifyFault (record { program = flowed; decl = decl; rows = rows.now })) }
 {
-    let kept = Vec::from_slice(alloc, rows)?;
+    walk(alloc, &flowed, decl, rows)?;
+    Ok(accept(alloc, flowed, decl, rows)?)
+}
+
+// Visits each slot of a program, up to one that is refused.
+pub(crate) fn walk(
+    alloc: Global,
+    flowed: &Flowed,
+    decl: Decl,
+    rows: &[KindRow],
+) -> Result<(), VerifyFault>
+    requires { AreRows rows.now }
+    ensures fine { OnOk result (verdict (record { program = flowed.now; decl = decl; rows = rows.now }) ≡ None) }
+    ensures refused { IfErr result (IsVerifyFault (record { program = flowed.now; decl = decl; rows = rows.now })) }
+{
     let slots = flowed.program().slots();
     let mut entries = first_entries(alloc, slots)?;
     for slot in 0..slots {
-        visit(&flowed, decl, rows, slot, &mut entries)?;
+        visit(flowed, decl, rows, slot, &mut entries)?;
     }
+    Ok(())
+}
+
+// What a program of which no slot is refused is made into.
+pub(crate) fn accept(
+    alloc: Global,
+    flowed: Flowed,
+    decl: Decl,
+    rows: &[KindRow],
+) -> Result<Verified, AllocError>
+    requires rows { AreRows rows.now }
+    requires fine { verdict (record { program = flowed; decl = decl; rows = rows.now }) ≡ None }
+    ensures { IfOk result (λ v. v ≡ record { program = flowed; decl = decl; rows = rows.now }) }
+{
+    let kept = Vec::from_slice(alloc, rows)?;
     let operations = operations_of(alloc, &flowed)?;
     let (calls, swaps) = calls_in(flowed.program());
     Ok(Verified {

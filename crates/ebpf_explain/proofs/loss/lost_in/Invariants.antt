@@ -4,5 +4,5 @@ use Rattle.ebpf_explain.proofs.loss.lost_in.Given as goal
 
 abbrev pub invariant-loop-step : goal.invariant-loop-step
 invariant-loop-step l =
-    lost_within l.looked.flowed.now l.looked.entries.now l.register (length l.looked.entries.now - l._step) l.at
-    ≡ lost_in l.looked.flowed.now l.looked.entries.now l.register l.slot
+    lost_within l.trace.flowed.now l.trace.entries.items l.register (length l.trace.entries.items - l._step) l.at
+    ≡ lost_in l.trace.flowed.now l.trace.entries.items l.register l.slot

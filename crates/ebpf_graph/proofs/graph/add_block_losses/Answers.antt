@@ -7,6 +7,6 @@ loop-slot-init c = no_losses _ _ _
 
 pub loop-slot-preserved : goal.loop-slot-preserved
 loop-slot-preserved c =
-    more_losses c.args.looked.now.flowed.now c.args.looked.now.entries.now _ _ _ c.loop-slot.slot _
-    (c.requires.each c.loop-slot.slot (omega (arith, c.args.looked.now.looked.inside, c.loop-slot-test.true)))
+    more_losses c.args.trace.now.flowed.now c.args.trace.now.entries.items _ _ _ c.loop-slot.slot _
+    (c.requires.each c.loop-slot.slot (omega (arith, c.args.trace.now.looked.inside, c.loop-slot-test.true)))
     c.loop-slot.invariant c.in_ok-add_if_begins.ensures

@@ -6,6 +6,6 @@ use Rattle.ebpf_graph.proofs.graph.write_blocks.Given as goal
 
 abbrev pub invariant-loop-slot : goal.invariant-loop-slot
 invariant-loop-slot l = record {
-  first : l.first ≡ last_begun l.looked.flowed.now l.slot;
-  written : string_bytes l.text ≡ string_bytes l.fn.text ++ texts_below l.slot (slot_graph l.drawn.states l.looked.flowed.now l.looked.entries.now l.looked.kinds.now l.refused);
+  first : l.first ≡ last_begun l.trace.flowed.now l.slot;
+  written : string_bytes l.text ≡ string_bytes l.fn.text ++ texts_below l.slot (slot_graph l.drawn.states l.trace.flowed.now l.trace.entries.items l.trace.kinds.now l.refused);
 }

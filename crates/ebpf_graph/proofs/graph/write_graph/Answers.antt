@@ -6,6 +6,6 @@ use Rattle.ebpf_graph.proofs.graph.write_graph.Goals as goal
 
 pub returns : goal.returns
 returns c =
-    let looked = c.args.looked.now in
-    let text : Bool → _ = λ states. string_bytes c.push_str.new.self ++ texts_below (length looked.flowed.now) (slot_graph states looked.flowed.now looked.entries.now looked.kinds.now c.args.refused) in
+    let trace = c.args.trace.now in
+    let text : Bool → _ = λ states. string_bytes c.push_str.new.self ++ texts_below (length trace.flowed.now) (slot_graph states trace.flowed.now trace.entries.items trace.kinds.now c.args.refused) in
     pushed_third _ _ _ _ _ _ _ _ c.in_ok-push_str.ensures.bytes (c.in_ok-write_blocks.ensures ∙ ap text c.in_ok-drawn.ensures.states) c.push_str-2.ensures.bytes

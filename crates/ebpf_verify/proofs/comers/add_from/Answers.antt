@@ -8,33 +8,30 @@ use Rattle.ebpf_verify.proofs.comers.add_from.Goals as goal
 
 pub returns-then-not-jumps : goal.returns-then-not-jumps
 returns-then-not-jumps c =
-    let p = c.args.looked.now.flowed.now in
+    let p = c.args.trace.now.flowed.now in
     let falls : leads_to (edges_at p c.args.from).fall c.args.to ≡ false = search rules in
     let jumps : leads_to (edges_at p c.args.from).jump c.args.to ≡ false = search rules in
     sent_nowhere (insn_at p c.args.from) p c.args.from c.args.to (entry_of p c.args.from) c.args.comers.now.items falls jumps
 
 pub add_after-requires-clause-fine : goal.add_after-requires-clause-fine
 add_after-requires-clause-fine c =
-    let looked = c.args.looked.now in
-    let subject : Subject = record { program = looked.flowed.now; decl = looked.decl; rows = looked.kinds.now } in
-    let at : insn_at looked.flowed.now c.args.from ≡ Some c.in-Some-Known.insn.now = search rules in
-    let here =
-    entry_looked_at subject looked.entries.now c.args.from c.index-looked-from.result looked.looked (omega (arith, c.requires.before, c.requires.inside)) in
-    refusal_below subject looked.entries.now c.args.from c.args.to c.in-Some-Known.insn.now c.in-Some-Known.state looked.looked
+    let trace = c.args.trace.now in
+    let subject : Subject = record { program = trace.flowed.now; decl = trace.decl; rows = trace.kinds.now } in
+    let at : insn_at trace.flowed.now c.args.from ≡ Some c.in-Some-Known.insn.now = search rules in
+    let here = c.index.ensures ∙ entry_looked_at subject trace.entries.items c.args.from c.index.result.now trace.looked (omega (arith, c.requires.before, c.requires.inside)) in
+    refusal_below subject trace.entries.items c.args.from c.args.to c.in-Some-Known.insn.now c.in-Some-Known.state trace.looked
     c.requires.before c.requires.inside at (sym c.in-Some-Known.is-1 ∙ here)
 
 pub returns-in-Some-Known : goal.returns-in-Some-Known
 returns-in-Some-Known c =
-    let looked = c.args.looked.now in
-    let subject : Subject = record { program = looked.flowed.now; decl = looked.decl; rows = looked.kinds.now } in
-    let here =
-    entry_looked_at subject looked.entries.now c.args.from c.index-looked-from.result looked.looked (omega (arith, c.requires.before, c.requires.inside)) in
+    let trace = c.args.trace.now in
+    let subject : Subject = record { program = trace.flowed.now; decl = trace.decl; rows = trace.kinds.now } in
+    let here = c.index.ensures ∙ entry_looked_at subject trace.entries.items c.args.from c.index.result.now trace.looked (omega (arith, c.requires.before, c.requires.inside)) in
     rw (← here, c.in-Some-Known.is-1) (search rules)
 
 pub returns-in_default : goal.returns-in_default
 returns-in_default c =
-    let looked = c.args.looked.now in
-    let subject : Subject = record { program = looked.flowed.now; decl = looked.decl; rows = looked.kinds.now } in
-    let here = c.index-looked-from.is
-    ∙ entry_looked_at subject looked.entries.now c.args.from c.index-looked-from.result looked.looked (omega (arith, c.requires.before, c.requires.inside)) in
+    let trace = c.args.trace.now in
+    let subject : Subject = record { program = trace.flowed.now; decl = trace.decl; rows = trace.kinds.now } in
+    let here = c.index.ensures ∙ entry_looked_at subject trace.entries.items c.args.from c.index.result.now trace.looked (omega (arith, c.requires.before, c.requires.inside)) in
     rw (← here) (search rules)

@@ -3,7 +3,7 @@ use Rattle.std.specs.Prelude.{slice_get}
 use Rattle.ebpf_insn.specs.Faults.{lowest}
 use Rattle.ebpf_flow.specs.Edges.{edges_at, reached_by}
 use Rattle.ebpf_flow.specs.Flow.{flow_fault_at, LeadsForward}
-use Rattle.ebpf_flow.proofs.check.check.Given as goal
+use Rattle.ebpf_flow.proofs.check.edges_in.Given as goal
 
 abbrev pub invariant-loop-slot : goal.invariant-loop-slot
 invariant-loop-slot l = record {

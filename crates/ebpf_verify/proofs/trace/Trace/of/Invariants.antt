@@ -4,13 +4,13 @@ use Rattle.ebpf_verify.specs.declared.entry.EntryState.TheVariants.{Unreached}
 use Rattle.ebpf_verify.specs.Entry.{arrived}
 use Rattle.ebpf_verify.specs.Traces.{entries_below}
 use Rattle.ebpf_verify.specs.Verdict.{refusal_at}
-use Rattle.ebpf_verify.proofs.trace.trace_verdict.Given as goal
+use Rattle.ebpf_verify.proofs.trace.Trace.of.Given as goal
 
 abbrev pub invariant-loop-slot : goal.invariant-loop-slot
 invariant-loop-slot l = record {
   all : l.slots ≡ length l.fn.flowed;
-  len : length l.entries.items ≡ l.slots;
-  came : (t : ℕ) → l.slot ≤ t → t < l.slots → slice_index_or l.entries.items t Unreached ≡ arrived l.fn.flowed l.slot t;
-  seen : l.seen.items ≡ entries_below l.fn.flowed l.slot;
-  fine : lowest (refusal_at (record { program = l.fn.flowed; decl = l.fn.decl; rows = l.fn.rows })) l.slot ≡ None;
+  len : length l.arriving.items ≡ l.slots;
+  came : (t : ℕ) → l.slot ≤ t → t < l.slots → slice_index_or l.arriving.items t Unreached ≡ arrived l.fn.flowed l.slot t;
+  seen : l.entries.items ≡ entries_below l.fn.flowed l.slot;
+  fine : lowest (refusal_at (record { program = l.fn.flowed; decl = l.fn.decl; rows = l.fn.kinds })) l.slot ≡ None;
 }

@@ -3,7 +3,7 @@ use Rattle.ebpf_insn.specs.Faults.{lowest}
 use Rattle.ebpf_verify.specs.declared.entry.EntryState.TheVariants.{Unreached}
 use Rattle.ebpf_verify.specs.Entry.{arrived}
 use Rattle.ebpf_verify.specs.Verdict.{refusal_at}
-use Rattle.ebpf_verify.proofs.verify.verify.Given as goal
+use Rattle.ebpf_verify.proofs.verify.walk.Given as goal
 
 abbrev pub invariant-loop-slot : goal.invariant-loop-slot
 invariant-loop-slot l = record {
