@@ -1,9 +1,8 @@
 //! The command `assemble`.
 
-ghost use Rattle.std.specs.Prelude.{◌≡◌, ◌≢◌, ℕ, List, IfOk, IfErr};
-ghost use Rattle.ebpf_command.specs.declared.done.EngineFault.TheVariants.{Output};
+ghost use Rattle.std.specs.Prelude.{◌≡◌, ℕ, List, IfOk};
 ghost use Rattle.ebpf_command.specs.Response.{refused_response};
-ghost use Rattle.ebpf_command.specs.Writing.{Writes, WritesBeginning, Reads};
+ghost use Rattle.ebpf_command.specs.Writing.{Performs};
 ghost use Rattle.ebpf_assemble.specs.FaultText.{long_text_lines, IsFaultText};
 ghost use Rattle.ebpf_assemble.specs.AssembleText.{Assembles, AreSlotsOf, WritesEachText, WritesEachListing};
 
@@ -32,14 +31,12 @@ pub fn assemble<R: Read, W: Write>(
     writer: &mut W,
 ) -> Result<Done, EngineFault>
     // The slots of the program that the input is a text of are written, or why it is of none, and nothing else.
-    ensures response { Writes Assembles (R.remaining reader.old) (W.contents writer.old) (W.contents writer.new) result }
+    ensures done { Performs Assembles (R.remaining reader.old) (R.remaining reader.new) (W.contents writer.old) (W.contents writer.new)
+        writer.old writer.new result }
     // Of a text of a program its slots are written, and no fault.
     ensures only { WritesEachText (R.remaining reader.old) (W.contents writer.old) (W.contents writer.new) result }
     // So they are of its listing.
     ensures back { WritesEachListing (R.remaining reader.old) (W.contents writer.old) (W.contents writer.new) result }
-    ensures consumed { Reads (R.remaining reader.old) (R.remaining reader.new) result }
-    ensures untouched { IfErr result (λ fault. fault ≢ Output → writer.new ≡ writer.old) }
-    ensures beginning { WritesBeginning Assembles (R.remaining reader.old) (W.contents writer.old) (W.contents writer.new) result }
 {
     respond(alloc, reader, writer, |input| assemble_input(alloc, input))
 }

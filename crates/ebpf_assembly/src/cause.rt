@@ -3,11 +3,10 @@
 //! *The idea.* A line is read as a whole or not at all. Once one is refused, its words are looked at again, one by one, up to the first
 //! that no instruction has there.
 
-ghost use Rattle.std.specs.Prelude.{◌≡◌, ◌≢◌, ◌<◌, ◌^◌, ◌↔◌, ◌+◌, length, true, IfOk};
+ghost use Rattle.std.specs.Prelude.{◌≡◌, ◌<◌, ◌^◌, ◌↔◌, ◌+◌, length, true, IfOk};
 ghost use Rattle.ebpf_assembly.specs.Names.{labels_of};
 ghost use Rattle.ebpf_assembly.specs.Labels.{names_of};
-ghost use Rattle.ebpf_assembly.specs.Kinds.{IsKind, kind_name};
-ghost use Rattle.ebpf_assembly.specs.Reading.{IsRead, texts};
+ghost use Rattle.ebpf_assembly.specs.Reading.{texts};
 ghost use Rattle.ebpf_assembly.specs.Causes.{line_of, wanted_by, Fits, IsCause, IsCauseBy, IsMisfitFrom, IsOperandsCause, IsWordCause, IsWordsCause, is_labelled, label_cause, labelled_by, misfit};
 
 use crate::fault::LineFault;
@@ -167,7 +166,6 @@ fn words_cause(alloc: Global, labels: &[Label<'_>], words: &[&[u8]]) -> Result<C
 
 // What is wrong with the name of no instruction.
 fn word_cause(alloc: Global, word: &[u8]) -> Result<Cause, AllocError>
-    requires { (k : Kind) → IsKind k → word.now ≢ kind_name k }
     ensures { IfOk result (IsWordCause word.now) }
 {
     let mut longer = Vec::new(alloc);

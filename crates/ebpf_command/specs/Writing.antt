@@ -1,5 +1,5 @@
 -- What a command reads and writes, where the reader and the writer tell their bytes.
-use Rattle.std.specs.Prelude.{◌≡◌, ◌≤◌, ℕ, List, ◌++◌, length, take, Option, Result, Ok, Err, IfOk, IfErr, IfSome}
+use Rattle.std.specs.Prelude.{◌≡◌, ◌≢◌, ◌≤◌, ℕ, List, ◌++◌, length, take, Option, Result, Ok, Err, IfOk, IfErr, IfSome}
 use Rattle.std.specs.Borrow.{Bor}
 use Rattle.std.specs.Fn.{Once, FnOnceReturnsAt}
 use Rattle.std.specs.Io.KnownBytes.{Appends, Consumes}
@@ -45,3 +45,16 @@ WritesBeginning Responds input old new result =
 -- where it ends, what is read of the input is gone from the reader, and nothing after it
 abbrev pub Reads : (old new : Option (List ℕ)) → Result Done EngineFault → Type 0
 Reads old new result = IfOk result (λ done. IfSome old (λ input. Consumes old new (read_of input)))
+
+-- a response was written, or a beginning of it where a write failed
+abbrev pub IsWritten : Response → (old new : Option (List ℕ)) → Result Done EngineFault → Type 0
+IsWritten response old new (Ok done) = (done ≡ response.done) × Appends old new response.text
+IsWritten response old new (Err fault) = (fault ≡ Output) × AppendsBeginning old new response.text
+
+-- What a command does: it writes the text of a response to the input and nothing else, and reads the input and nothing after it; where it
+-- could not write, it wrote a beginning of that text, and on any other fault nothing, so that the writer is as it was.
+pub record Performs {V : Type 0} (Responds : Responding) (input rest old new : Option (List ℕ)) (was is : V) (result : Result Done EngineFault) : Type 0 where
+  pub response : Writes Responds input old new result
+  pub consumed : Reads input rest result
+  pub beginning : WritesBeginning Responds input old new result
+  pub untouched : IfErr result (λ fault. fault ≢ Output → is ≡ was)

@@ -1,11 +1,10 @@
 //! What a command answers, and how each command is answered.
 
-ghost use Rattle.std.specs.Prelude.{◌≡◌, ◌≢◌, IfOk, IfErr};
-ghost use Rattle.ebpf_command.specs.declared.done.EngineFault.TheVariants.{Output};
+ghost use Rattle.std.specs.Prelude.{◌≡◌, IfOk};
 ghost use Rattle.ebpf_command.specs.Json.{fault_in};
 ghost use Rattle.ebpf_command.specs.Lines.{fault_line};
 ghost use Rattle.ebpf_command.specs.Response.{refused_response};
-ghost use Rattle.ebpf_command.specs.Writing.{AnsweredBy, Writes, WritesBeginning, Reads};
+ghost use Rattle.ebpf_command.specs.Writing.{AnsweredBy, IsWritten, Performs};
 
 use crate::done::{Done, EngineFault, FaultCode};
 use crate::format::Format;
@@ -72,14 +71,21 @@ pub fn respond<R: Read, W: Write, F: FnOnce(&[u8]) -> Result<Answer, AllocError>
     answer: F,
 ) -> Result<Done, EngineFault>
     requires { F.IsAlwaysCallable answer }
-    // The text of the input's answer is written, and nothing else.
-    ensures response { Writes (AnsweredBy F.FnOnce answer) (R.remaining reader.old) (W.contents writer.old) (W.contents writer.new) result }
-    ensures consumed { Reads (R.remaining reader.old) (R.remaining reader.new) result }
-    ensures untouched { IfErr result (λ fault. fault ≢ Output → writer.new ≡ writer.old) }
-    ensures beginning { WritesBeginning (AnsweredBy F.FnOnce answer) (R.remaining reader.old) (W.contents writer.old) (W.contents writer.new) result }
+    ensures { Performs (AnsweredBy F.FnOnce answer) (R.remaining reader.old) (R.remaining reader.new) (W.contents writer.old) (W.contents writer.new)
+        writer.old writer.new result }
 {
     let input = read_input(alloc, reader)?;
     let answer = answer(&input)?;
+    write_answer(writer, answer)
+}
+
+/// Writes the text of an answer, flushes the writer, and says how the command ends.
+///
+/// # Errors
+/// `Output` where a write failed or took nothing: what was written is a beginning of the text.
+pub fn write_answer<W: Write>(writer: &mut W, answer: Answer) -> Result<Done, EngineFault>
+    ensures { IsWritten answer (W.contents writer.old) (W.contents writer.new) result }
+{
     write_text(writer, answer.text.as_bytes())?;
     Ok(answer.done)
 }

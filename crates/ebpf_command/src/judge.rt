@@ -2,19 +2,13 @@
 
 ghost use Rattle.std.specs.Prelude.{◌≡◌, IfOk};
 ghost use Rattle.ebpf_verify.specs.Verdict.{AreRows};
-ghost use Rattle.ebpf_command.specs.Judging.{IsJudged, judged_of};
+ghost use Rattle.ebpf_command.specs.Judging.{IsJudged, judged_as};
 
 use crate::codes::RefusalCode;
-use ebpf_flow::check::check;
-use ebpf_flow::fault::FlowFault;
-use ebpf_insn::decode::decode;
-use ebpf_insn::fault::DecodeFault;
-use ebpf_insn::program::Program;
 use ebpf_state::kinds::KindRow;
 use ebpf_verify::decl::Decl;
-use ebpf_verify::fault::VerifyFault;
+use ebpf_verify::examined::{Examined, examine};
 use ebpf_verify::verified::Verified;
-use ebpf_verify::verify::verify;
 use std::alloc::{AllocError, Global};
 
 /// What bytes are judged to be.
@@ -22,12 +16,34 @@ use std::alloc::{AllocError, Global};
 pub enum Judged {
     /// A program of which no run traps.
     Accepted(Verified),
-    /// The first stage that refuses them does so with this code, at this slot.
+    /// The first check that refuses them does so with this code, at this slot.
     Refused { code: RefusalCode, slot: u16 },
 }
 
-/// Judges the bytes of a program: they are decoded, then the flow is checked, then the program is verified for what it
-/// declares, with these kinds. It fails only where an allocation fails.
+impl Judged {
+    /// What bytes that came so far are judged to be.
+    pub fn of(examined: Examined) -> Judged
+        ensures { result ≡ judged_as examined }
+    {
+        match examined {
+            Examined::Undecoded { slot, code } => Judged::Refused {
+                code: RefusalCode::Decode(code),
+                slot,
+            },
+            Examined::Misled { slot, code, .. } => Judged::Refused {
+                code: RefusalCode::Flow(code),
+                slot,
+            },
+            Examined::Refused { slot, code, .. } => Judged::Refused {
+                code: RefusalCode::Verify(code),
+                slot,
+            },
+            Examined::Accepted(verified) => Judged::Accepted(verified),
+        }
+    }
+}
+
+/// Judges the bytes of a program, for what it declares and with these kinds. It fails only where an allocation fails.
 pub fn judge(
     alloc: Global,
     bytes: &[u8],
@@ -37,42 +53,5 @@ pub fn judge(
     requires { AreRows rows.now }
     ensures { IfOk result (IsJudged bytes.now decl rows.now) }
 {
-    match decode(alloc, bytes) {
-        Ok(program) => judge_program(alloc, program, decl, rows),
-        Err(DecodeFault::Bad { slot, code }) => Ok(Judged::Refused {
-            code: RefusalCode::Decode(code),
-            slot,
-        }),
-        Err(DecodeFault::NoMemory) => Err(AllocError),
-    }
-}
-
-// Judges a program.
-fn judge_program(
-    alloc: Global,
-    program: Program,
-    decl: Decl,
-    rows: &[KindRow],
-) -> Result<Judged, AllocError>
-    requires { AreRows rows.now }
-    ensures { IfOk result (λ judged. judged ≡ judged_of (record { program = program; decl = decl; rows = rows.now })) }
-{
-    let flowed = match check(alloc, program) {
-        Ok(flowed) => flowed,
-        Err(FlowFault::Bad { slot, code }) => {
-            return Ok(Judged::Refused {
-                code: RefusalCode::Flow(code),
-                slot,
-            });
-        }
-        Err(FlowFault::NoMemory) => return Err(AllocError),
-    };
-    match verify(alloc, flowed, decl, rows) {
-        Ok(verified) => Ok(Judged::Accepted(verified)),
-        Err(VerifyFault::Refused { slot, code }) => Ok(Judged::Refused {
-            code: RefusalCode::Verify(code),
-            slot,
-        }),
-        Err(VerifyFault::NoMemory) => Err(AllocError),
-    }
+    Ok(Judged::of(examine(alloc, bytes, decl, rows)?))
 }

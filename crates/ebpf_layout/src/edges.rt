@@ -1,46 +1,37 @@
-//! Where an instruction leads, forward or back.
+//! Where an instruction leads, forward or back, and the same instruction with another way to lead.
 
-ghost use Rattle.std.specs.Prelude.{◌≡◌, ◌<◌, pos, negsuc, ◌≤ℤ◌, Some};
+ghost use Rattle.std.specs.Prelude.{◌≡◌, ◌<◌, pos};
 ghost use Rattle.ebpf_insn.specs.declared.program.TheConstants.{MAX_SLOTS};
-ghost use Rattle.ebpf_insn.specs.Program.{insn_at};
-ghost use Rattle.ebpf_flow.specs.Edges.{fall_of, target_of, jump_of, edges_at};
+ghost use Rattle.ebpf_flow.specs.Edges.{edges_at};
+ghost use Rattle.ebpf_layout.specs.Layout.{moved};
 ghost use Rattle.ebpf_layout.specs.Search.{standing};
 
-use ebpf_flow::edges::{displacement_of, falls};
+use ebpf_flow::edges::{fall_of, jump_of};
 use ebpf_insn::insn::Insn;
 use ebpf_insn::program::Program;
 
-// The slot that a jump by n slots leads to: none below slot 0.
-pub(crate) fn target_of(slot: usize, displacement: i64) -> Option<usize>
-    requires few { slot < MAX_SLOTS }
-    requires low { negsuc 2147483647 ≤ℤ displacement }
-    requires high { displacement ≤ℤ pos 2147483647 }
-    ensures { result ≡ target_of (Some displacement) slot }
+/// The instruction with another displacement, if it jumps.
+pub fn moved(insn: Insn, way: usize) -> Insn
+    requires { way < 8192 }
+    ensures { result ≡ moved insn (pos way) }
 {
-    let to = slot as i64 + 1 + displacement;
-    if to < 0 { None } else { Some(to as usize) }
-}
-
-// The slot that the jump of an instruction leads to.
-pub(crate) fn jump_of(insn: Insn, slot: usize) -> Option<usize>
-    requires { slot < MAX_SLOTS }
-    ensures { result ≡ jump_of insn slot }
-{
-    match displacement_of(insn) {
-        Some(displacement) => target_of(slot, displacement),
-        None => None,
-    }
-}
-
-// The slot that an instruction goes on to.
-pub(crate) fn fall_of(insn: Insn, slot: usize) -> Option<usize>
-    requires { slot < MAX_SLOTS }
-    ensures { result ≡ fall_of insn slot }
-{
-    if falls(insn) {
-        Some(slot + insn.slots())
-    } else {
-        None
+    match insn {
+        Insn::Jump { .. } => Insn::Jump { offset: way as i16 },
+        Insn::JumpFar { .. } => Insn::JumpFar { offset: way as i32 },
+        Insn::Branch {
+            width,
+            cond,
+            left,
+            right,
+            ..
+        } => Insn::Branch {
+            width,
+            cond,
+            left,
+            right,
+            offset: way as i16,
+        },
+        _ => insn,
     }
 }
 

@@ -5,14 +5,16 @@
 //! comes before those that it leads to, with a jump added where a branch's target has to be between the branch and what that
 //! falls to. So the check of the flow takes it, and a run of it does what a run of the old one would have done.
 //!
+//! [`edges::moved`] and [`refusal::edge_fault`] are for crates that write programs in other ways.
+//!
 //! To be read in this order: `fault`, `edges`, `mark`, `search`, `refusal`, `placing`, `writer`, `layout`.
 #![tactic(auto)]
 
-mod edges;
+pub mod edges;
 pub mod fault;
 pub mod layout;
 mod mark;
 mod placing;
-mod refusal;
+pub mod refusal;
 mod search;
 mod writer;

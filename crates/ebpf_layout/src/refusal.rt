@@ -10,11 +10,10 @@ ghost use Rattle.ebpf_layout.specs.Refusal.{IsLayoutFault};
 ghost use Rattle.ebpf_layout.specs.Search.{IsOrder, IsDone, mark_at};
 ghost use Rattle.ebpf_flow.specs.Edges.{displacement_of, target_of};
 
-use crate::edges::target_of;
 use crate::fault::LayoutFault;
 use crate::mark::Mark;
 use crate::search::Order;
-use ebpf_flow::edges::{displacement_of, falls};
+use ebpf_flow::edges::{displacement_of, falls, target_of};
 use ebpf_flow::fault::FlowCode;
 use ebpf_insn::insn::Insn;
 use ebpf_insn::program::Program;
@@ -50,8 +49,8 @@ fn reached_fault(program: &Program, order: &Order, slot: usize) -> Option<FlowCo
     }
 }
 
-// The first code of an edge that leads to no instruction.
-fn edge_fault(program: &Program, slot: usize) -> Option<FlowCode>
+/// The first code of an edge of a slot that leads to no instruction: `JumpOutside`, `JumpIntoWide` or `FallsOffEnd`.
+pub fn edge_fault(program: &Program, slot: usize) -> Option<FlowCode>
     requires { slot < MAX_SLOTS }
     ensures { result ≡ edge_fault_at program.now slot }
 {

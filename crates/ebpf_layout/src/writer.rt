@@ -10,15 +10,15 @@ ghost use Rattle.ebpf_insn.specs.Program.{insn_at, slots_in};
 ghost use Rattle.ebpf_insn.specs.Encoding.{IsDefined};
 ghost use Rattle.ebpf_flow.specs.Edges.{displacement_of};
 ghost use Rattle.ebpf_layout.specs.EdgeFaults.{edge_fault_at};
-ghost use Rattle.ebpf_layout.specs.Layout.{moved};
 ghost use Rattle.ebpf_layout.specs.Paths.{IsReached};
 ghost use Rattle.ebpf_layout.specs.Placing.{AreNeighbours};
 ghost use Rattle.ebpf_layout.specs.Search.{IsOrder};
 ghost use Rattle.ebpf_layout.specs.Writing.{half_of, with_jump, HasPlace, NotesLast, WritesJump, IsPlaced, IsWayTo, IsCode, LeadsOn, IsMovedTo, Writes, AreWritten, IsWriting};
 
-use crate::edges::{fall_of, jump_of};
+use crate::edges::moved;
 use crate::mark::Mark;
 use crate::search::Order;
+use ebpf_flow::edges::{fall_of, jump_of};
 use ebpf_insn::insn::Insn;
 use ebpf_insn::program::Program;
 use std::alloc::{AllocError, Global};
@@ -198,30 +198,5 @@ fn push_half(code: &mut Vec<Option<Insn>>, insn: Insn) -> Result<(), AllocError>
             Ok(())
         }
         _ => Ok(()),
-    }
-}
-
-// The instruction with another displacement, if it jumps.
-fn moved(insn: Insn, way: usize) -> Insn
-    requires { way < 8192 }
-    ensures { result ≡ moved insn (pos way) }
-{
-    match insn {
-        Insn::Jump { .. } => Insn::Jump { offset: way as i16 },
-        Insn::JumpFar { .. } => Insn::JumpFar { offset: way as i32 },
-        Insn::Branch {
-            width,
-            cond,
-            left,
-            right,
-            ..
-        } => Insn::Branch {
-            width,
-            cond,
-            left,
-            right,
-            offset: way as i16,
-        },
-        _ => insn,
     }
 }

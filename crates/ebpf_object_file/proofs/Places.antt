@@ -1,11 +1,12 @@
 -- What the searches found, in the words of the definitions.
-use Rattle.std.proofs.Common.{◌≡◌, ◌<◌, ◌≤◌, ◌+◌, ◌/◌, ℕ, Bool, false, true, List, [], length, take, drop, cond, Option, sym, ap, subst, ◌∙◌, arith, inl, inr}
+use Rattle.std.proofs.Common.{◌≡◌, ◌<◌, ◌≤◌, ◌+◌, ◌/◌, ℕ, Bool, false, true, List, [], ◌∷◌, length, take, drop, cond, Option, sym, ap, subst, ◌∙◌, arith, inl, inr}
 use Rattle.std.proofs.lemmas.List.{length-take, length-drop}
 use Rattle.std.proofs.lemmas.Bool.Decides.{eqb_tells, nat_tests}
 use Rattle.ebpf_object_file.specs.declared.header.Header.{Header}
 use Rattle.ebpf_object_file.specs.declared.symbol.Symbol.{Symbol}
 use Rattle.ebpf_object_file.specs.declared.relocation.Relocation.{Relocation}
 use Rattle.ebpf_object_file.specs.declared.outside.Place.{Place}
+use Rattle.ebpf_object_file.specs.declared.function.Function.{Function}
 use Rattle.ebpf_object_file.specs.declared.section.Wanted.TheVariants.{RelocationsFor, AddendsFor}
 use Rattle.ebpf_object_file.specs.Header.{header_of}
 use Rattle.ebpf_object_file.specs.First.{NoneBelow, IsFirst, IsOnly, Finds}
@@ -14,7 +15,7 @@ use Rattle.ebpf_object_file.specs.Symbol.{symbol_of, is_function, is_function_na
 use Rattle.ebpf_object_file.specs.Relocation.{relocation_of, reaches}
 use Rattle.ebpf_object_file.specs.File.{named_in}
 use Rattle.ebpf_object_file.specs.Outside.{IsReached, IsReachedFirst}
-use Rattle.ebpf_object_file.specs.Function.{code_of, IsPlace}
+use Rattle.ebpf_object_file.specs.Function.{code_of, IsPlace, IsWanted}
 
 true_false : (b : Bool) → b ≡ true → b ≡ false → ⊥
 true_false true t f = absurd (cc)
@@ -92,6 +93,9 @@ taken_within n l = rw (length-take n l) omega arith
 inside_by : (from size value room code bytes file : ℕ) → from ≡ value → size ≡ room → code ≤ size → value + room ≤ bytes → bytes ≤ file → from + code ≤ file
 inside_by from size value room code bytes file a b c d e = omega arith
 
+begins_within : (from code file : ℕ) → from + code ≤ file → from ≤ file
+begins_within from code file inside = omega arith
+
 -- the bytes of a place are in the file
 pub place_within : (file symbols : List ℕ) (number : ℕ) (p : Place) (code : List ℕ) → IsPlace file symbols number p → code ≡ code_of file p
     → p.from + length code ≤ length file
@@ -102,3 +106,8 @@ place_within file symbols number p code is same =
     let short : length code ≤ p.size = subst (λ (x : List ℕ). length x ≤ p.size) (sym same) (taken_within p.size _) in
     inside_by p.from p.size s.value s.size (length code) (length (bytes_of file s.section)) (length file) is.from is.size short inside
     (contents_within file (has_no_bytes section) section.offset section.size)
+
+-- the function that is wanted begins in the file
+pub wanted_within : (file name : List ℕ) (f : Function) → IsWanted file name f → f.place.from ≤ length file
+wanted_within file [] f is = begins_within _ _ _ (place_within file is.0.symbols is.0.number f.place f.code.now is.0.at.place is.0.at.code)
+wanted_within file (c ∷ name) f is = begins_within _ _ _ (place_within file is.0.symbols is.0.number f.place f.code.now is.0.at.place is.0.at.code)

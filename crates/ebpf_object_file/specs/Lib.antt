@@ -14,3 +14,4 @@ pub mod Outside
 pub mod Function
 pub mod Sentences
 pub mod Shown
+pub mod HoldingLine

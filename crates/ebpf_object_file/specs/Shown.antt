@@ -27,6 +27,10 @@ shown_place file line column text =
 abbrev pub place_of : Lines → Line → List ℕ
 place_of l n = shown_place (text_at l.strings.now n.file file_limit) n.line n.column (trimmed (text_at l.strings.now n.text text_limit))
 
+-- the same as a line of text under another, indented
+abbrev pub place_row : Lines → Line → List ℕ
+place_row l n = codes "  " ++ (place_of l n ++ codes "\n")
+
 -- the line that holds at each slot of a function that begins at a byte of the section
 abbrev pub AreHolding : Lines → ℕ → List (Option Line) → Type 0
 AreHolding l from holding = (k : ℕ) → k < length holding

@@ -7,7 +7,7 @@
 //! linear in the size of the file: names have at most 255 bytes, and no table is read more than a few times.
 //!
 //! To be read in this order: `fault`, `field`, `header`, `section`, `text`, `symbol`, `relocation`, `call`, `functions`, `symbol_name`,
-//! `outside`, `object_fault`, `function`, `lines`, `shown`, `slot_lines`, `source`.
+//! `outside`, `object_fault`, `function`, `lines`, `shown`, `slot_lines`, `source`, `holding_line`.
 #![tactic(auto)]
 
 mod call;
@@ -16,6 +16,7 @@ mod field;
 pub mod function;
 pub mod functions;
 mod header;
+pub mod holding_line;
 pub mod lines;
 pub mod object_fault;
 pub mod outside;

@@ -11,13 +11,17 @@ use Rattle.ebpf_command.specs.declared.done.FaultCode.{FaultCode}
 use Rattle.ebpf_command.specs.HexText.{bytes_or_none}
 use Rattle.ebpf_command.specs.Response.{Response}
 use Rattle.ebpf_command.specs.Writing.{Responding, Writes}
+use Rattle.ebpf_one.specs.declared.ask.Input.{Input}
+use Rattle.ebpf_one.specs.declared.ask.Input.TheVariants.{Program, Object}
 use Rattle.ebpf_one.specs.declared.form.Form.{Form}
 use Rattle.ebpf_one.specs.declared.form.Form.TheVariants.{Hex, Raw}
-use Rattle.ebpf_one.specs.Alike.{IsHexText, WritesAsHex}
+use Rattle.ebpf_one.specs.Alike.{IsHexText, WritesAsHex, WritesInputAsHex}
 use Rattle.ebpf_one.specs.Asked.{Asked, asked_for, bytes_in, input_fault, fault_of}
 use Rattle.ebpf_one.specs.LayOutText.{LaysOut, LaysOutGiven}
 use Rattle.ebpf_one.specs.ListText.{RespondsList, RespondsGiven}
+use Rattle.ebpf_one.specs.ObjectText.{RespondsInput}
 use Rattle.ebpf_one.specs.OneText.{Responds, RespondsAsked}
+use Rattle.ebpf_one.specs.SourceText.{ListsInput}
 use Rattle.ebpf_one.specs.ProgramText.{is_blank}
 use Rattle.ebpf_one.proofs.Digits.{not_above}
 
@@ -82,3 +86,14 @@ writes_as_hex Sends alike form input old new result h hex bytes raw given is =
     of_bytes : (r : Result Done EngineFault) → Writes (Sends Raw) (Some bytes) old new r → Writes (Sends Hex) (Some hex) old new r
     of_bytes (Ok done) k = (k.0, alike hex bytes k.0 is k.1, k.2, k.3)
     of_bytes (Err fault) k = tt
+
+-- by what the input is
+pub input_as_hex : (format : Format) (Sends : Form → Responding) → AreAlike Sends → (what : Input) (input old new : Option (List ℕ)) (result : Result Done EngineFault)
+    → Writes (RespondsInput format what Sends) input old new result → WritesInputAsHex Sends what input old new result
+input_as_hex format Sends alike (Program form) input old new result h = writes_as_hex Sends alike form input old new result h
+input_as_hex format Sends alike (Object name) input old new result h = tt
+
+pub list_as_hex : (format : Format) (what : Input) (lines : Bool) (input old new : Option (List ℕ)) (result : Result Done EngineFault)
+    → Writes (ListsInput format what lines) input old new result → WritesInputAsHex (RespondsList format) what input old new result
+list_as_hex format (Program form) lines input old new result h = writes_as_hex (RespondsList format) (list_alike format) form input old new result h
+list_as_hex format (Object name) lines input old new result h = tt

@@ -10,20 +10,28 @@ use Rattle.ebpf_object_file.specs.Shown.{AreHolding}
 use Rattle.ebpf_object_file.specs.Source.{AreLinesOf, HasNoLinesOf}
 use Rattle.ebpf_command.specs.Response.{Response}
 use Rattle.ebpf_command.proofs.Written.{CutsLong}
+use Rattle.ebpf_one.specs.declared.ask.Input.{Input}
+use Rattle.ebpf_one.specs.declared.ask.Input.TheVariants.{Program, Object}
 use Rattle.ebpf_one.specs.declared.form.Form.TheVariants.{Raw}
-use Rattle.ebpf_one.specs.ExplainText.{ExplainsTo}
-use Rattle.ebpf_one.specs.ExplainObject.{ExplainsLined, ExplainsFunction, ExplainsObject}
+use Rattle.ebpf_one.specs.Shown.{ExplainsTo}
+use Rattle.ebpf_one.specs.declared.shown.Shown.TheVariants.{States}
+use Rattle.ebpf_one.specs.ExplainObject.{ExplainsLined, ExplainsFunction, ExplainsObject, ExplainsInput}
 use Rattle.ebpf_one.proofs.ObjectResponses.{read_long}
-use Rattle.ebpf_one.proofs.Responses.{explain_cuts}
+use Rattle.ebpf_one.proofs.Responses.{shown_cuts}
 use Rattle.ebpf_one.proofs.Sources.{LinesKnown}
 
 -- of a file that is too long the beginning is answered
 pub explained_object_cuts : (format : Format) (listed : Bool) (context : List ℕ) (held : ℕ) (name : List ℕ) → CutsLong (ExplainsObject format listed context held name)
-explained_object_cuts format listed context held name file response long (inl k) = inl (omega (arith, long), explain_cuts format Raw context held file response long k.1)
+explained_object_cuts format listed context held name file response long (inl k) = inl (omega (arith, long), shown_cuts (States format None) Raw context held file response long k.1)
 explained_object_cuts format listed context held name file response long (inr (inl k)) =
     let short = k.0 in let read = read_long file long in absurd (omega (arith, short, read))
 explained_object_cuts format listed context held name file response long (inr (inr k)) =
     let short = k.1.0 in let read = read_long file long in absurd (omega (arith, short, read))
+
+-- and of every input
+pub explains_cuts : (format : Format) (input : Input) (context : List ℕ) (held : ℕ) (lines : Bool) → CutsLong (ExplainsInput format input context held lines)
+explains_cuts format (Program form) context held lines = shown_cuts (States format None) form context held
+explains_cuts format (Object name) context held lines = explained_object_cuts format lines context held name.now
 
 -- a function without lines is explained so, and one with them
 pub of_no_lines : (format : Format) (listed : Bool) (context : List ℕ) (held : ℕ) (file : List ℕ) (f : Function) (r : Option Lines) (response : Response) → r ≡ None → LinesKnown file f r

@@ -1,15 +1,17 @@
 -- A command responds to an object file that is too long as to its beginning.
-use Rattle.std.proofs.Common.{◌≡◌, inl, inr, ℕ, ◌<◌, List, Option, Result, length, refl, subst, arith}
+use Rattle.std.proofs.Common.{◌≡◌, inl, inr, ℕ, ◌<◌, List, length, refl, subst, arith}
 use Rattle.std.proofs.lemmas.List.{length-take-le}
 use Rattle.ebpf_command.specs.declared.format.Format.{Format}
 use Rattle.ebpf_object_file.specs.declared.object_fault.ObjectFault.{ObjectFault}
-use Rattle.ebpf_command.specs.declared.done.Done.{Done}
-use Rattle.ebpf_command.specs.declared.done.EngineFault.{EngineFault}
 use Rattle.ebpf_command.specs.Input.{read_of}
 use Rattle.ebpf_command.specs.Response.{Response}
-use Rattle.ebpf_command.specs.Writing.{Responding, Writes, WritesBeginning}
-use Rattle.ebpf_command.proofs.Written.{CutsLong, response_through, begun_through}
-use Rattle.ebpf_one.specs.ObjectText.{IsTaken, IsTakenFault, RespondsFault, RespondsObject, Answers}
+use Rattle.ebpf_command.specs.Writing.{Responding}
+use Rattle.ebpf_command.proofs.Written.{CutsLong}
+use Rattle.ebpf_one.specs.declared.ask.Input.{Input}
+use Rattle.ebpf_one.specs.declared.ask.Input.TheVariants.{Program, Object}
+use Rattle.ebpf_one.specs.declared.form.Form.{Form}
+use Rattle.ebpf_one.specs.declared.form.Form.TheVariants.{Raw}
+use Rattle.ebpf_one.specs.ObjectText.{IsTaken, IsTakenFault, RespondsFault, RespondsObject, RespondsInput}
 
 pub read_long : (file : List ℕ) → 1048577 < length file → length (read_of file) ≡ 1048577
 read_long file long = length-take-le 1048577 file (omega (arith, long))
@@ -37,11 +39,8 @@ pub of_fault : (format : Format) (P : Responding) (name : List ℕ) (file : List
     → RespondsFault format file e response → RespondsObject format P name file response
 of_fault format P name file e response is h = inr (e, is, h)
 
--- so what was answered of what was read is what the command writes
-pub answers_by : {Answered : Responding} (format : Format) (P : Responding) (name : List ℕ) (input old new : Option (List ℕ)) (result : Result Done EngineFault)
-    → Writes Answered input old new result → WritesBeginning Answered input old new result
-    → ((all : List ℕ) (response : Response) → Answered all response → RespondsObject format P name all response) → Answers format P name input old new result
-answers_by format P name input old new result wrote began responds = record {
-  response = response_through (RespondsObject format P name) input old new result wrote responds;
-  beginning = begun_through (RespondsObject format P name) input old new result began responds;
-}
+-- so does a command to an input that is too long, whatever it is
+pub input_cuts : (format : Format) (Sends : Form → Responding) → ((form : Form) → CutsLong (Sends form)) → (input : Input)
+    → CutsLong (RespondsInput format input Sends)
+input_cuts format Sends cuts (Program form) = cuts form
+input_cuts format Sends cuts (Object name) = object_cuts format (Sends Raw) (cuts Raw) name.now

@@ -4,7 +4,6 @@ use Rattle.std.proofs.lemmas.List.{length-take-le}
 use Rattle.std.proofs.lemmas.Bool.{lt-ltb}
 use Rattle.ebpf_command.specs.declared.format.Format.{Format}
 use Rattle.ebpf_state.specs.declared.kinds.KindRow.{KindRow}
-use Rattle.ebpf_insn.specs.Decoding.{decode_fault}
 use Rattle.ebpf_verify.specs.declared.decl.Decl.{Decl}
 use Rattle.ebpf_command.specs.declared.done.FaultCode.{FaultCode}
 use Rattle.ebpf_command.specs.declared.done.FaultCode.TheVariants.{InputTooLong}
@@ -14,9 +13,9 @@ use Rattle.ebpf_command.specs.Judging.{IsJudged}
 use Rattle.ebpf_command.specs.Response.{Response}
 use Rattle.ebpf_command.proofs.Written.{CutsLong}
 use Rattle.ebpf_one.specs.declared.form.Form.{Form}
-use Rattle.ebpf_one.specs.declared.sourced.Sourced.{Sourced}
 use Rattle.ebpf_one.specs.Asked.{Asked, asked_for, bytes_in, input_fault, fault_of}
-use Rattle.ebpf_one.specs.ExplainText.{ExplainsTo, ExplainsWith, ExplainsAsked, ExplainsBytes, ExplainsDecoded}
+use Rattle.ebpf_one.specs.Shown.{ShowsTo, ShowsAsked, ShowsBytes, ShowsWith}
+use Rattle.ebpf_one.specs.declared.shown.Shown.{Shown}
 use Rattle.ebpf_one.specs.LayOutText.{LaysOut, LaysOutGiven}
 use Rattle.ebpf_one.specs.ListText.{RespondsList, RespondsGiven}
 use Rattle.ebpf_one.specs.OneText.{Responds, RespondsAsked, RespondsBytes, RespondsJudged, AreGiven}
@@ -68,25 +67,25 @@ Responds-asked format form input context held nulls a response fine same h =
     let P : Option FaultCode → Type 0 = λ f. RespondsAsked format f (asked_for form input context held) nulls response in
     subst P (sym fine) (subst (λ (x : Asked). RespondsBytes format x nulls response) same h)
 
--- and so does `explain`
-pub explain_cuts : (format : Format) (form : Form) (context : List ℕ) (held : ℕ) → CutsLong (ExplainsTo format form context held)
-explain_cuts format form context held =
-    cuts_at (λ input. fault_of form input context held) (λ f input response. ExplainsAsked format None f form input context held response)
+-- and so do `explain` and `graph`
+pub shown_cuts : (shown : Shown) (form : Form) (context : List ℕ) (held : ℕ) → CutsLong (ShowsTo shown form context held)
+shown_cuts shown form context held =
+    cuts_at (λ input. fault_of form input context held) (λ f input response. ShowsAsked shown f form input context held response)
     (λ input long. fault_of_long form input context held long) (λ a b response h. h)
 
--- what the bytes of a request are explained to be
-pub explained_bytes : (format : Format) (source : Option Sourced) (a : Asked) (seen : List ℕ) (decl : Decl) (rows : List KindRow) (response : Response) → seen ≡ a.bytes
-    → AreGiven a decl rows → ExplainsDecoded format source (decode_fault seen) seen decl rows response → ExplainsBytes format source a response
-explained_bytes format source a seen decl rows response same given h =
-    (decl, rows, given, subst (λ (bytes : List ℕ). ExplainsDecoded format source (decode_fault bytes) bytes decl rows response) same h)
+-- what the bytes of a request are shown as
+pub shown_bytes : (shown : Shown) (a : Asked) (seen : List ℕ) (decl : Decl) (rows : List KindRow) (response : Response) → seen ≡ a.bytes
+    → AreGiven a decl rows → ShowsWith shown seen decl rows response → ShowsBytes shown a response
+shown_bytes shown a seen decl rows response same given h =
+    (decl, rows, given, subst (λ (bytes : List ℕ). ShowsWith shown bytes decl rows response) same h)
 
--- what the bytes that an input asks for are explained to be is what the input is
-pub Explains-asked : (format : Format) (source : Option Sourced) (form : Form) (input context : List ℕ) (held : ℕ) (a : Asked) (response : Response)
-    → fault_of form input context held ≡ None → a ≡ asked_for form input context held → ExplainsBytes format source a response
-    → ExplainsWith format source form context held input response
-Explains-asked format source form input context held a response fine same h =
-    let P : Option FaultCode → Type 0 = λ f. ExplainsAsked format source f form input context held response in
-    subst P (sym fine) (subst (λ (x : Asked). ExplainsBytes format source x response) same h)
+-- what the bytes that an input asks for are shown as is what the input is
+pub Shows-asked : (shown : Shown) (form : Form) (input context : List ℕ) (held : ℕ) (a : Asked) (response : Response)
+    → fault_of form input context held ≡ None → a ≡ asked_for form input context held → ShowsBytes shown a response
+    → ShowsTo shown form context held input response
+Shows-asked shown form input context held a response fine same h =
+    let P : Option FaultCode → Type 0 = λ f. ShowsAsked shown f form input context held response in
+    subst P (sym fine) (subst (λ (x : Asked). ShowsBytes shown x response) same h)
 
 -- and so does `lay-out`
 pub lay_out_cuts : (format : Format) (form : Form) → CutsLong (LaysOut format form)

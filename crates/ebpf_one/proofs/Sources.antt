@@ -1,5 +1,5 @@
 -- The listing with the lines of C, a slot at a time, and of an object file that is too long.
-use Rattle.std.proofs.Common.{◌≡◌, ◌+◌, inl, inr, ℕ, List, [], ◌++◌, Option, refl, ap, subst, ◌∙◌, add-one, append_assoc, arith}
+use Rattle.std.proofs.Common.{◌≡◌, ◌+◌, inl, inr, ℕ, Bool, true, false, List, [], ◌++◌, Option, refl, ap, subst, ◌∙◌, add-one, append_assoc, arith}
 use Rattle.std.specs.Prelude.{None, Some, slice_index_or}
 use Rattle.std.specs.Option.{MatchOption}
 use Rattle.ebpf_command.specs.declared.format.Format.{Format}
@@ -13,11 +13,13 @@ use Rattle.ebpf_object_file.specs.Source.{AreLinesOf, HasNoLinesOf}
 use Rattle.ebpf_one.specs.Formats.{insn_in}
 use Rattle.ebpf_command.specs.Response.{Response}
 use Rattle.ebpf_command.proofs.Written.{CutsLong}
+use Rattle.ebpf_one.specs.declared.ask.Input.{Input}
+use Rattle.ebpf_one.specs.declared.ask.Input.TheVariants.{Program, Object}
 use Rattle.ebpf_one.specs.declared.form.Form.TheVariants.{Raw}
 use Rattle.ebpf_one.specs.ListText.{RespondsList}
-use Rattle.ebpf_one.specs.SourceText.{sourced_below, SourcesDecoded, SourcesFunction, RespondsSource}
+use Rattle.ebpf_one.specs.SourceText.{sourced_below, SourcesDecoded, SourcesFunction, RespondsSource, ListsInput}
 use Rattle.ebpf_one.specs.Sourced.{heading, held_before}
-use Rattle.ebpf_one.proofs.ObjectResponses.{read_long}
+use Rattle.ebpf_one.proofs.ObjectResponses.{read_long, object_cuts}
 use Rattle.ebpf_one.proofs.Responses.{list_cuts}
 
 -- a line of C and another line after a text
@@ -75,3 +77,9 @@ of_no_lines format file f r response e known h = let is : HasNoLinesOf file f.pl
 pub of_lines : (format : Format) (file : List ℕ) (f : Function) (r : Option Lines) (l : Lines) (response : Response) → r ≡ Some l → LinesKnown file f r
     → SourcesDecoded format (decode_fault f.code.now) f.code.now l f.place.from response → SourcesFunction format file f response
 of_lines format file f r l response e known h = let are : AreLinesOf file f.place.section l = subst (LinesKnown file f) e known in inr (inl (l, are, h))
+
+-- and `list`, whatever the input is
+pub lists_cuts : (format : Format) (input : Input) (lines : Bool) → CutsLong (ListsInput format input lines)
+lists_cuts format (Program form) lines = list_cuts format form
+lists_cuts format (Object name) true = source_cuts format name.now
+lists_cuts format (Object name) false = object_cuts format (RespondsList format Raw) (list_cuts format Raw) name.now

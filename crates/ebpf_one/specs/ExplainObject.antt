@@ -12,9 +12,11 @@ use Rattle.ebpf_object_file.specs.Source.{AreLinesOf, HasNoLinesOf, IsLinesOfFau
 use Rattle.ebpf_command.specs.declared.format.Format.{Format}
 use Rattle.ebpf_command.specs.Response.{Response, refused_response}
 use Rattle.ebpf_command.specs.Writing.{Responding}
+use Rattle.ebpf_one.specs.declared.ask.Input.{Input}
+use Rattle.ebpf_one.specs.declared.ask.Input.TheVariants.{Program, Object}
 use Rattle.ebpf_one.specs.declared.form.Form.TheVariants.{Raw}
 use Rattle.ebpf_one.specs.declared.sourced.Sourced.{Sourced}
-use Rattle.ebpf_one.specs.ExplainText.{ExplainsTo, ExplainsWith}
+use Rattle.ebpf_one.specs.Shown.{ExplainsTo, ExplainsWith}
 use Rattle.ebpf_one.specs.ObjectText.{IsTakenFault, RespondsFault, object_fault_lines}
 
 -- the slots are explained with the line that holds at each
@@ -44,3 +46,8 @@ ExplainsObject format listed context held name file response =
     ((1048576 < length file) × ExplainsTo format Raw context held file response)
     ⊎ ((length file ≤ 1048576) × (f : Function) × IsWanted file name f × ExplainsFunction format listed context held file f response)
     ⊎ ((e : ObjectFault) × IsTakenFault name file e × RespondsFault format file e response)
+
+-- the response of `explain` by what is asked, and whether the lines of C are listed
+abbrev pub ExplainsInput : Format → Input → List ℕ → ℕ → Bool → Responding
+ExplainsInput format (Program form) context held lines = ExplainsTo format form context held
+ExplainsInput format (Object name) context held lines = ExplainsObject format lines context held name.now

@@ -6,7 +6,7 @@ use Rattle.ebpf_text.specs.Listing.{insn_text, line_at, listing_of}
 use Rattle.ebpf_object_file.specs.declared.lines.Line.{Line}
 use Rattle.ebpf_object_file.specs.declared.lines.Lines.{Lines}
 use Rattle.ebpf_object_file.specs.Lines.{file_limit, text_limit, trimmed}
-use Rattle.ebpf_object_file.specs.Shown.{shown_of, place_of}
+use Rattle.ebpf_object_file.specs.Shown.{shown_of, place_row}
 use Rattle.ebpf_object_file.specs.Text.{text_at}
 use Rattle.ebpf_explain.specs.StackWords.{texts_below}
 use Rattle.ebpf_command.specs.declared.done.FaultCode.{FaultCode}
@@ -86,5 +86,5 @@ column_member column = codes ",\"column\":" ++ decimal column
 
 -- the same with its column, which is 0 where the compiler names none
 abbrev pub place_in : Format → Lines → Line → List ℕ
-place_in Text l n = codes "  " ++ (place_of l n ++ codes "\n")
+place_in Text l n = place_row l n
 place_in Json l n = source_head l n ++ (column_member n.column ++ source_tail l n)

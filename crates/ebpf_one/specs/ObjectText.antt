@@ -1,17 +1,14 @@
 -- The response of a command to an object file: its response to the slots of the function that is asked for, as raw bytes, or why the file
 -- has no such program.
-use Rattle.std.specs.Prelude.{◌≡◌, ◌≤◌, ◌<◌, ◌⊎◌, ◌/◌, ℕ, ◌++◌, List, [], length, codes, Option, Some, Result}
-use Rattle.ebpf_object_file.specs.declared.fault.FileFault.{FileFault}
+use Rattle.std.specs.Prelude.{◌≡◌, ◌≤◌, ◌<◌, ◌⊎◌, ℕ, ◌++◌, List, [], length, codes, Option, Some, None, Result}
 use Rattle.ebpf_object_file.specs.declared.function.Function.{Function}
-use Rattle.ebpf_object_file.specs.declared.lines.Line.{Line}
-use Rattle.ebpf_object_file.specs.declared.lines.Lines.{Lines}
+use Rattle.ebpf_object_file.specs.declared.holding_line.HoldingLine.{HoldingLine}
 use Rattle.ebpf_object_file.specs.declared.object_fault.ObjectFault.{ObjectFault}
 use Rattle.ebpf_object_file.specs.declared.object_fault.ObjectFault.TheVariants as object
-use Rattle.ebpf_object_file.specs.declared.outside.Outside.{Outside}
 use Rattle.ebpf_object_file.specs.Function.{IsWanted, IsWantedFault}
 use Rattle.ebpf_object_file.specs.Sentences.{object_code, object_sentence}
-use Rattle.ebpf_object_file.specs.Lines.{Holds}
-use Rattle.ebpf_object_file.specs.Source.{AreLinesOf, HasNoLinesOf, IsLinesOfFault, HasNoTables}
+use Rattle.ebpf_object_file.specs.HoldingLine.{IsHoldingLine}
+use Rattle.ebpf_object_file.specs.Source.{HasNoTables}
 use Rattle.ebpf_command.specs.declared.done.Done.{Done}
 use Rattle.ebpf_command.specs.declared.done.EngineFault.{EngineFault}
 use Rattle.ebpf_command.specs.declared.format.Format.{Format}
@@ -19,7 +16,11 @@ use Rattle.ebpf_command.specs.declared.format.Format.TheVariants.{Text, Json}
 use Rattle.ebpf_command.specs.Json.{why_member}
 use Rattle.ebpf_command.specs.Response.{Response, refused_response}
 use Rattle.ebpf_command.specs.Writing.{Responding, Writes, WritesBeginning}
-use Rattle.ebpf_one.specs.Sourced.{place_row}
+use Rattle.ebpf_one.specs.declared.ask.Input.{Input}
+use Rattle.ebpf_one.specs.declared.ask.Input.TheVariants.{Program, Object}
+use Rattle.ebpf_one.specs.declared.form.Form.{Form}
+use Rattle.ebpf_one.specs.declared.form.Form.TheVariants.{Raw}
+use Rattle.ebpf_one.specs.Formats.{place_in}
 
 -- the slots that are asked for; a file that is too long is taken as it is, since each command reports that first
 abbrev pub IsTaken : List ℕ → List ℕ → List ℕ → Type 0
@@ -37,17 +38,16 @@ object_fault_lines Text e = codes "fault " ++ (object_code e ++ (codes " line 0\
 object_fault_lines Json e =
     codes "{\"fault\":\"" ++ (object_code e ++ (codes "\",\"line\":0" ++ (why_member (codes "  " ++ (object_sentence e ++ codes "\n")) ++ codes "}\n")))
 
--- under the sentence of a slot is the line of C that holds there
-abbrev pub IsLineUnder : Format → Outside → Lines → List ℕ → Type 0
-IsLineUnder format o l under =
-    (line : Option Line) × Holds l.size l.records.now o.place.from o.at (length l.records.now / l.size) line × (under ≡ place_row format l line)
+-- a line of C that holds at a slot, if there is one
+abbrev pub holding_in : Format → Option HoldingLine → List ℕ
+holding_in format None = []
+holding_in format (Some h) = place_in format h.lines h.line
 
--- where the file has lines that can be read; nothing is under a fault that has no slot
+-- Under the sentence of a slot is the line of C that holds there, where the file has lines that can be read. Nothing is under a fault
+-- that has no slot.
 abbrev pub IsUnder : Format → (file : List ℕ) → ObjectFault → List ℕ → Type 0
 IsUnder format file (object.Outside o) under =
-    ((l : Lines) × AreLinesOf file o.place.section l × IsLineUnder format o l under)
-    ⊎ (HasNoLinesOf file o.place.section × (under ≡ []))
-    ⊎ ((e : FileFault) × IsLinesOfFault file o.place.section e × (under ≡ []))
+    (holding : Option HoldingLine) × IsHoldingLine file o.place o.at holding × (under ≡ holding_in format holding)
 IsUnder format file _ under = under ≡ []
 
 -- the response to a file that has no such program
@@ -62,12 +62,21 @@ RespondsObject format Sends name file response =
     ((bytes : List ℕ) × IsTaken name file bytes × Sends bytes response)
     ⊎ ((e : ObjectFault) × IsTakenFault name file e × RespondsFault format file e response)
 
--- what a command writes of an object file: the text of a response, or a beginning of it where it could not write
-pub record Answers (format : Format) (Sends : Responding) (name : List ℕ) (input old new : Option (List ℕ)) (result : Result Done EngineFault) : Type 0 where
-  pub response : Writes (RespondsObject format Sends name) input old new result
-  pub beginning : WritesBeginning (RespondsObject format Sends name) input old new result
+-- by what the input is: a program is responded to as it is
+abbrev pub RespondsInput : Format → Input → (Form → Responding) → Responding
+RespondsInput format (Program form) Sends = Sends form
+RespondsInput format (Object name) Sends = RespondsObject format (Sends Raw) name.now
 
 -- a command that knows lines of C writes of a file without them what another does, which knows none
+pub record WritesAnswer (Sends : Responding) (input old new : Option (List ℕ)) (result : Result Done EngineFault) : Type 0 where
+  pub response : Writes Sends input old new result
+  pub beginning : WritesBeginning Sends input old new result
+
 abbrev pub WritesPlain : Format → Responding → List ℕ → (input old new : Option (List ℕ)) → Result Done EngineFault → Type 0
 WritesPlain format Sends name input old new result =
-    (file : List ℕ) → input ≡ Some file → HasNoTables file → Answers format Sends name input old new result
+    (file : List ℕ) → input ≡ Some file → HasNoTables file → WritesAnswer (RespondsObject format Sends name) input old new result
+
+-- nothing is said of a program: it has no lines
+abbrev pub WritesInputPlain : Format → Responding → Input → (input old new : Option (List ℕ)) → Result Done EngineFault → Type 0
+WritesInputPlain format Sends (Program form) input old new result = Unit {0}
+WritesInputPlain format Sends (Object name) input old new result = WritesPlain format Sends name.now input old new result

@@ -1,5 +1,5 @@
 -- The response of `list --source` to an object file: the instructions of the function that is asked for, with the lines of C between.
-use Rattle.std.specs.Prelude.{◌≡◌, ◌≤◌, ◌<◌, ◌⊎◌, ℕ, zero, suc, ◌++◌, List, [], length, Option, Some, None, slice_index_or}
+use Rattle.std.specs.Prelude.{◌≡◌, ◌≤◌, ◌<◌, ◌⊎◌, ℕ, zero, suc, ◌++◌, Bool, true, false, List, [], length, Option, Some, None, slice_index_or}
 use Rattle.ebpf_insn.specs.declared.insn.Insn.{Insn}
 use Rattle.ebpf_insn.specs.declared.fault.DecodeCode.{DecodeCode}
 use Rattle.ebpf_insn.specs.Decoding.{decode_fault}
@@ -18,10 +18,12 @@ use Rattle.ebpf_command.specs.Codes.{decode_name}
 use Rattle.ebpf_command.specs.declared.format.Format.{Format}
 use Rattle.ebpf_command.specs.Response.{Response, refused_response, clean_response}
 use Rattle.ebpf_command.specs.Writing.{Responding}
+use Rattle.ebpf_one.specs.declared.ask.Input.{Input}
+use Rattle.ebpf_one.specs.declared.ask.Input.TheVariants.{Program, Object}
 use Rattle.ebpf_one.specs.declared.form.Form.TheVariants.{Raw}
 use Rattle.ebpf_one.specs.Formats.{insn_in, refused_in}
 use Rattle.ebpf_one.specs.ListText.{RespondsList}
-use Rattle.ebpf_one.specs.ObjectText.{IsTakenFault, RespondsFault, object_fault_lines}
+use Rattle.ebpf_one.specs.ObjectText.{IsTakenFault, RespondsFault, RespondsObject, object_fault_lines}
 use Rattle.ebpf_one.specs.Sourced.{heading, held_before}
 
 abbrev pub slot_text : Format → Lines → List (Option Line) → List (Option Insn) → ℕ → List ℕ
@@ -57,3 +59,9 @@ RespondsSource format name file response =
     ((1048576 < length file) × RespondsList format Raw file response)
     ⊎ ((length file ≤ 1048576) × (f : Function) × IsWanted file name f × SourcesFunction format file f response)
     ⊎ ((e : ObjectFault) × IsTakenFault name file e × RespondsFault format file e response)
+
+-- the response of `list` by what the input is, and whether the lines of C are listed
+abbrev pub ListsInput : Format → Input → Bool → Responding
+ListsInput format (Program form) lines = RespondsList format form
+ListsInput format (Object name) true = RespondsSource format name.now
+ListsInput format (Object name) false = RespondsObject format (RespondsList format Raw) name.now

@@ -5,7 +5,7 @@ ghost use Rattle.ebpf_explain.specs.Known.{known_words};
 ghost use Rattle.ebpf_explain.specs.Lost.{lost_line};
 ghost use Rattle.ebpf_explain.specs.StackWords.{texts_below};
 ghost use Rattle.ebpf_verify.specs.Comers.{comers};
-ghost use Rattle.ebpf_verify.specs.Looked.{subject_of};
+ghost use Rattle.ebpf_verify.specs.Traced.{subject_of};
 ghost use Rattle.ebpf_one.specs.KnownObjects.{entry_objects, known_object, lost_object, slot_objects};
 
 use crate::json_text::write_instruction;
@@ -16,20 +16,20 @@ use ebpf_state::kinds::KindRow;
 use ebpf_state::state::State;
 use ebpf_verify::comers::comers_to;
 use ebpf_verify::entry::EntryState;
-use ebpf_verify::looked::Looked;
+use ebpf_verify::trace::Trace;
 use std::alloc::{AllocError, Global};
 
 /// Writes what is known before each slot after a text.
 pub(crate) fn write_objects(
     alloc: Global,
     text: &mut String,
-    looked: &Looked,
+    trace: &Trace,
 ) -> Result<(), AllocError>
     ensures { OnOk result (string_bytes text.new ≡ string_bytes text.old
-        ++ texts_below (length looked.now.entries.now) (slot_objects looked.now.flowed.now looked.now.entries.now looked.now.kinds.now)) }
+        ++ texts_below (length trace.now.entries.items) (slot_objects trace.now.flowed.now trace.now.entries.items trace.now.kinds.now)) }
 {
-    for slot in 0..looked.entries.len() {
-        write_slot_objects(alloc, text, looked, slot)?;
+    for slot in 0..trace.entries.len() {
+        write_slot_objects(alloc, text, trace, slot)?;
     }
     Ok(())
 }
@@ -38,16 +38,16 @@ pub(crate) fn write_objects(
 pub(crate) fn write_slot_objects(
     alloc: Global,
     text: &mut String,
-    looked: &Looked,
+    trace: &Trace,
     slot: usize,
 ) -> Result<(), AllocError>
-    requires inside { slot < length looked.now.entries.now }
-    ensures { OnOk result (string_bytes text.new ≡ string_bytes text.old ++ slot_objects looked.now.flowed.now looked.now.entries.now looked.now.kinds.now slot) }
+    requires inside { slot < length trace.now.entries.items }
+    ensures { OnOk result (string_bytes text.new ≡ string_bytes text.old ++ slot_objects trace.now.flowed.now trace.now.entries.items trace.now.kinds.now slot) }
 {
-    let Some(insn) = looked.flowed.program().at(slot) else {
+    let Some(insn) = trace.flowed.program().at(slot) else {
         return Ok(());
     };
-    write_entry(alloc, text, looked, slot, &looked.entries[slot])?;
+    write_entry(alloc, text, trace, slot, &trace.entries[slot])?;
     write_instruction(text, slot, insn)?;
     Ok(())
 }
@@ -56,17 +56,17 @@ pub(crate) fn write_slot_objects(
 fn write_entry(
     alloc: Global,
     text: &mut String,
-    looked: &Looked,
+    trace: &Trace,
     slot: usize,
     entry: &EntryState,
 ) -> Result<(), AllocError>
-    requires inside { slot < length looked.now.entries.now }
-    ensures { OnOk result (string_bytes text.new ≡ string_bytes text.old ++ entry_objects looked.now.kinds.now (comers looked.now.flowed.now slot) entry.now) }
+    requires inside { slot < length trace.now.entries.items }
+    ensures { OnOk result (string_bytes text.new ≡ string_bytes text.old ++ entry_objects trace.now.kinds.now (comers trace.now.flowed.now slot) entry.now) }
 {
     match entry {
         EntryState::Known(state) => {
-            write_known_of(alloc, text, state, looked.kinds)?;
-            write_lost_at(alloc, text, looked, slot, state)?;
+            write_known_of(alloc, text, state, trace.kinds)?;
+            write_lost_at(alloc, text, trace, slot, state)?;
             Ok(())
         }
         EntryState::Unreached => text.push_str("{\"known\":\"never entered\"}\n"),
@@ -95,14 +95,14 @@ fn write_known_of(
 fn write_lost_at(
     alloc: Global,
     text: &mut String,
-    looked: &Looked,
+    trace: &Trace,
     slot: usize,
     state: &State,
 ) -> Result<(), AllocError>
-    requires inside { slot < length looked.now.entries.now }
-    ensures { OnOk result (string_bytes text.new ≡ string_bytes text.old ++ lost_object (lost_line (comers looked.now.flowed.now slot) state.now)) }
+    requires inside { slot < length trace.now.entries.items }
+    ensures { OnOk result (string_bytes text.new ≡ string_bytes text.old ++ lost_object (lost_line (comers trace.now.flowed.now slot) state.now)) }
 {
-    let comers = comers_to(alloc, looked, slot)?;
+    let comers = comers_to(alloc, trace, slot)?;
     let mut lost = String::new(alloc);
     write_lost(alloc, &mut lost, &comers, state)?;
     write_lost_object(text, &lost)?;

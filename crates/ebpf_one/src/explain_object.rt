@@ -1,19 +1,15 @@
-//! The command `explain` over a function of an object file.
+//! What `explain` writes of a function of an object file, with its lines of C.
 
-ghost use Rattle.std.specs.Prelude.{◌≡◌, ◌≢◌, IfOk, IfErr};
-ghost use Rattle.ebpf_command.specs.declared.done.EngineFault.TheVariants.{Output};
-ghost use Rattle.ebpf_command.specs.Writing.{Writes, WritesBeginning, Reads};
+ghost use Rattle.std.specs.Prelude.{◌≡◌, IfOk};
 ghost use Rattle.ebpf_one.specs.declared.form.Form.TheVariants.{Raw};
-ghost use Rattle.ebpf_one.specs.ExplainText.{ExplainsTo};
-ghost use Rattle.ebpf_one.specs.ObjectText.{WritesPlain};
+ghost use Rattle.ebpf_one.specs.Shown.{ExplainsWith};
 ghost use Rattle.ebpf_one.specs.ExplainObject.{ExplainsLined, ExplainsUnread, ExplainsFunction, ExplainsObject};
 
-use crate::explain::explain_input;
 use crate::form::Form;
 use crate::object::{answer_file_fault, answer_object_fault};
+use crate::shown::{Shown, show_input};
 use crate::sourced::Sourced;
-use ebpf_command::answer::{Answer, respond};
-use ebpf_command::done::{Done, EngineFault};
+use ebpf_command::answer::Answer;
 use ebpf_command::format::Format;
 use ebpf_command::input::MAX_INPUT;
 use ebpf_object_file::fault::FileFault;
@@ -21,7 +17,21 @@ use ebpf_object_file::function::{Function, wanted_function};
 use ebpf_object_file::lines::{Line, Lines};
 use ebpf_object_file::source::lines_of;
 use std::alloc::{AllocError, Global};
-use std::io::{Read, Write};
+
+// The response to the slots of a function, with the lines of C that are known.
+fn explain_code(
+    alloc: Global,
+    format: Format,
+    code: &[u8],
+    context: &str,
+    held: u8,
+    source: Option<Sourced<'_>>,
+) -> Result<Answer, AllocError>
+    ensures { IfOk result (ExplainsWith format source.entry Raw context.now held code.now) }
+{
+    let shown = Shown::States { format, source };
+    show_input(alloc, shown, Form::Raw, code, context, held)
+}
 
 // The response to a function with lines.
 fn explain_lined(
@@ -42,15 +52,7 @@ fn explain_lined(
         holding: &holding,
         listed,
     };
-    explain_input(
-        alloc,
-        format,
-        Form::Raw,
-        function.code,
-        context,
-        held,
-        Some(source),
-    )
+    explain_code(alloc, format, function.code, context, held, Some(source))
 }
 
 // The response to a function with lines that can't be read.
@@ -68,7 +70,7 @@ fn explain_unread(
     if listed {
         answer_file_fault(alloc, format, fault)
     } else {
-        explain_input(alloc, format, Form::Raw, function.code, context, held, None)
+        explain_code(alloc, format, function.code, context, held, None)
     }
 }
 
@@ -86,13 +88,13 @@ fn explain_function(
 {
     match lines_of(file, function.place.section) {
         Ok(Some(lines)) => explain_lined(alloc, format, function, lines, context, held, listed),
-        Ok(None) => explain_input(alloc, format, Form::Raw, function.code, context, held, None),
+        Ok(None) => explain_code(alloc, format, function.code, context, held, None),
         Err(fault) => explain_unread(alloc, format, fault, function, context, held, listed),
     }
 }
 
-// The response to a file.
-fn explain_file(
+/// The response to a file. It fails only where an allocation fails.
+pub(crate) fn explain_file(
     alloc: Global,
     format: Format,
     file: &[u8],
@@ -104,40 +106,10 @@ fn explain_file(
     ensures { IfOk result (ExplainsObject format listed context.now held name.now file.now) }
 {
     if file.len() > MAX_INPUT {
-        return explain_input(alloc, format, Form::Raw, file, context, held, None);
+        return explain_code(alloc, format, file, context, held, None);
     }
     match wanted_function(file, name.as_bytes()) {
         Ok(function) => explain_function(alloc, format, file, function, context, held, listed),
         Err(fault) => answer_object_fault(alloc, format, file, fault),
     }
-}
-
-/// Reads an object file and does with a function of it what [`crate::explain::explain`] does with its slots, with the same options. Under
-/// the reason of a refusal is the line of C that holds at the slot, `FILE:LINE:COLUMN: TEXT`, where the file has lines that can be read.
-/// Where the lines are listed too, each is before its instructions, as [`crate::source_list::list_source`] writes it, and lines that
-/// can't be read are a fault. Where the name is empty, it is the file's only function.
-///
-/// # Errors
-/// Those of [`crate::explain::explain`].
-pub fn explain_object<R: Read, W: Write>(
-    alloc: Global,
-    reader: &mut R,
-    writer: &mut W,
-    format: Format,
-    function: &str,
-    context: &str,
-    held: u8,
-    listed: bool,
-) -> Result<Done, EngineFault>
-    // What `explain` writes of the function's slots is written with the lines, or the fault of the file, and nothing else.
-    ensures response { Writes (ExplainsObject format listed context.now held function.now) (R.remaining reader.old) (W.contents writer.old) (W.contents writer.new) result }
-    // Of a file without lines, it is what `explain` writes of the function's slots.
-    ensures plain { WritesPlain format (ExplainsTo format Raw context.now held) function.now (R.remaining reader.old) (W.contents writer.old) (W.contents writer.new) result }
-    ensures consumed { Reads (R.remaining reader.old) (R.remaining reader.new) result }
-    ensures untouched { IfErr result (λ fault. fault ≢ Output → writer.new ≡ writer.old) }
-    ensures beginning { WritesBeginning (ExplainsObject format listed context.now held function.now) (R.remaining reader.old) (W.contents writer.old) (W.contents writer.new) result }
-{
-    respond(alloc, reader, writer, |file| {
-        explain_file(alloc, format, file, function, context, held, listed)
-    })
 }

@@ -1,21 +1,24 @@
 //! The command `lay-out`: one program with its instructions in an order in which every jump leads forward.
 
-ghost use Rattle.std.specs.Prelude.{◌≡◌, ◌≢◌, ◌++◌, IfOk, IfErr, length, string_bytes};
+ghost use Rattle.std.specs.Prelude.{◌≡◌, ◌++◌, IfOk, length, string_bytes};
 ghost use Rattle.ebpf_insn.specs.Decoding.{decode_fault};
-ghost use Rattle.ebpf_command.specs.declared.done.EngineFault.TheVariants.{Output};
 ghost use Rattle.ebpf_command.specs.Response.{refused_response};
-ghost use Rattle.ebpf_command.specs.Writing.{Writes, WritesBeginning, Reads};
-ghost use Rattle.ebpf_one.specs.Alike.{WritesAsHex};
+ghost use Rattle.ebpf_command.specs.Writing.{Performs};
+ghost use Rattle.ebpf_one.specs.Alike.{WritesInputAsHex};
+ghost use Rattle.ebpf_one.specs.ObjectText.{RespondsInput};
 ghost use Rattle.ebpf_one.specs.LayOutText.{hex_in, loop_in, slots_in, LaysOut, LaysOutDecoded, LaysOutProgram, IsHexOf, layout_lines};
 
-use crate::explain::answer_undecoded;
+use crate::ask::Input;
 use crate::form::Form;
 use crate::in_format::answer_refused_why;
+use crate::object::{answer_object_fault, taken};
 use crate::request::given_bytes;
-use ebpf_command::answer::{Answer, answer_fault_in, respond};
+use crate::shown::answer_undecoded;
+use ebpf_command::answer::{Answer, answer_fault_in, write_answer};
 use ebpf_command::codes::RefusalCode;
 use ebpf_command::done::{Done, EngineFault, Stop};
 use ebpf_command::format::Format;
+use ebpf_command::input::read_input;
 use ebpf_explain::reason::write_misled;
 use ebpf_insn::decode::decode;
 use ebpf_insn::encode::encode;
@@ -26,8 +29,8 @@ use ebpf_layout::layout::lay_out as lay_out_program;
 use std::alloc::{AllocError, Global};
 use std::io::{Read, Write};
 
-/// Reads a program in a form and writes it in a format as hex with its instructions in an order in which every jump leads forward, without
-/// those that are not reached; or which edge closes a loop, or why the program can't be laid out else.
+/// Reads a program and writes it in a format as hex with its instructions in an order in which every jump leads forward, without those that
+/// are not reached; or which edge closes a loop, or why the program can't be laid out otherwise.
 ///
 /// # Errors
 /// `Input` where a read failed and `NoMemory` where an allocation failed: nothing was written then. `Output` where a write
@@ -37,26 +40,52 @@ pub fn lay_out<R: Read, W: Write>(
     reader: &mut R,
     writer: &mut W,
     format: Format,
-    form: Form,
+    input: &Input<'_>,
 ) -> Result<Done, EngineFault>
-    // A text of the input is written, and nothing else.
-    ensures response { Writes (LaysOut format form) (R.remaining reader.old) (W.contents writer.old) (W.contents writer.new) result }
+    ensures done { Performs (RespondsInput format input.now (LaysOut format)) (R.remaining reader.old) (R.remaining reader.new)
+        (W.contents writer.old) (W.contents writer.new) writer.old writer.new result }
     // Where the input is raw bytes, it is the text of each hex text of them.
-    ensures as_hex { WritesAsHex (LaysOut format) form (R.remaining reader.old) (W.contents writer.old) (W.contents writer.new) result }
-    ensures consumed { Reads (R.remaining reader.old) (R.remaining reader.new) result }
-    ensures untouched { IfErr result (λ fault. fault ≢ Output → writer.new ≡ writer.old) }
-    ensures beginning { WritesBeginning (LaysOut format form) (R.remaining reader.old) (W.contents writer.old) (W.contents writer.new) result }
+    ensures as_hex { WritesInputAsHex (LaysOut format) input.now (R.remaining reader.old) (W.contents writer.old) (W.contents writer.new) result }
 {
-    respond(
-        alloc,
-        reader,
-        writer,
-        |input| lay_out_input(alloc, format, form, input),
-    )
+    respond(alloc, reader, writer, format, input)
 }
 
-// The response to an input.
-pub(crate) fn lay_out_input(
+// Reads the input, answers it, and writes the answer.
+fn respond<R: Read, W: Write>(
+    alloc: Global,
+    reader: &mut R,
+    writer: &mut W,
+    format: Format,
+    input: &Input<'_>,
+) -> Result<Done, EngineFault>
+    ensures { Performs (RespondsInput format input.now (LaysOut format)) (R.remaining reader.old) (R.remaining reader.new)
+        (W.contents writer.old) (W.contents writer.new) writer.old writer.new result }
+{
+    let bytes = read_input(alloc, reader)?;
+    let answer = lay_out_asked(alloc, format, input, &bytes)?;
+    write_answer(writer, answer)
+}
+
+// The response to an input, by what it is.
+fn lay_out_asked(
+    alloc: Global,
+    format: Format,
+    input: &Input<'_>,
+    bytes: &[u8],
+) -> Result<Answer, AllocError>
+    ensures { IfOk result (RespondsInput format input.now (LaysOut format) bytes.now) }
+{
+    match *input {
+        Input::Program(form) => lay_out_input(alloc, format, form, bytes),
+        Input::Object(name) => match taken(name, bytes) {
+            Ok(slots) => lay_out_input(alloc, format, Form::Raw, slots),
+            Err(fault) => answer_object_fault(alloc, format, bytes, fault),
+        },
+    }
+}
+
+// The response to a program in a form.
+fn lay_out_input(
     alloc: Global,
     format: Format,
     form: Form,
@@ -133,7 +162,7 @@ fn answer_layout_fault(
     match fault {
         LayoutFault::Flow { slot, code } => {
             let mut why = String::new(alloc);
-            write_misled(&mut why, program, slot as usize, code)?;
+            write_misled(alloc, &mut why, program, slot as usize, code)?;
             answer_refused_why(alloc, format, RefusalCode::Flow(code).name(), slot, &why)
         }
         LayoutFault::Loop { from, to } => refused(loop_text(alloc, format, from, to)?),

@@ -5,7 +5,7 @@ ghost use Rattle.ebpf_object_file.specs.declared.object_fault.ObjectFault.TheVar
 ghost use Rattle.ebpf_command.specs.Response.{refused_response};
 ghost use Rattle.ebpf_one.specs.ObjectText.{IsTaken, IsTakenFault, IsUnder, RespondsFault, object_fault_lines};
 
-use crate::sourced::write_place;
+use crate::sourced::write_place_in;
 use ebpf_command::answer::Answer;
 use ebpf_command::done::Done;
 use ebpf_command::format::Format;
@@ -13,8 +13,8 @@ use ebpf_command::input::MAX_INPUT;
 use ebpf_command::json::write_why;
 use ebpf_object_file::fault::FileFault;
 use ebpf_object_file::function::wanted_function;
+use ebpf_object_file::holding_line::holding_line;
 use ebpf_object_file::object_fault::ObjectFault;
-use ebpf_object_file::source::lines_of;
 use std::alloc::{AllocError, Global};
 
 /// The slots of the function that is asked for, as bytes. A file with more bytes than an input may have is given back as it is, since
@@ -79,13 +79,9 @@ fn write_under(
     let ObjectFault::Outside(outside) = fault else {
         return Ok(());
     };
-    match lines_of(file, outside.place.section) {
-        Ok(Some(lines)) => {
-            let line = lines.at(outside.place.from, outside.at);
-            write_place(format, text, lines, line)
-        }
-        Ok(None) => Ok(()),
-        Err(_) => Ok(()),
+    match holding_line(file, outside.place, outside.at) {
+        Some(holding) => write_place_in(format, text, holding),
+        None => Ok(()),
     }
 }
 

@@ -1,15 +1,10 @@
-//! The command `list --source`: the instructions of a function of an object file, with the lines of C between.
+//! What `list` writes with the lines of C: the instructions of a function of an object file, with the lines of C between.
 
-ghost use Rattle.std.specs.Prelude.{◌≡◌, ◌≢◌, ◌≤◌, ◌<◌, ◌++◌, None, IfOk, IfErr, OnOk, length, slice_index_or, string_bytes};
+ghost use Rattle.std.specs.Prelude.{◌≡◌, ◌≤◌, ◌<◌, ◌++◌, None, IfOk, OnOk, length, slice_index_or, string_bytes};
 ghost use Rattle.ebpf_insn.specs.Decoding.{decode_fault};
 ghost use Rattle.ebpf_insn.specs.Program.{insn_at};
 ghost use Rattle.ebpf_text.specs.Listing.{line_at};
-ghost use Rattle.ebpf_command.specs.declared.done.EngineFault.TheVariants.{Output};
-ghost use Rattle.ebpf_command.specs.Writing.{Writes, WritesBeginning, Reads};
-ghost use Rattle.ebpf_one.specs.declared.form.Form.TheVariants.{Raw};
 ghost use Rattle.ebpf_one.specs.Formats.{insn_in};
-ghost use Rattle.ebpf_one.specs.ListText.{RespondsList};
-ghost use Rattle.ebpf_one.specs.ObjectText.{WritesPlain};
 ghost use Rattle.ebpf_one.specs.SourceText.{slot_text, sourced_below, IsSourced, SourcesDecoded, SourcesFunction, RespondsSource};
 
 use crate::form::Form;
@@ -18,9 +13,9 @@ use crate::json_text::write_object_at;
 use crate::list::list_input;
 use crate::object::{answer_file_fault, answer_object_fault};
 use crate::sourced::{held_at, held_before, write_heading};
-use ebpf_command::answer::{Answer, respond};
+use ebpf_command::answer::Answer;
 use ebpf_command::codes::RefusalCode;
-use ebpf_command::done::{Done, EngineFault};
+use ebpf_command::done::Done;
 use ebpf_command::format::Format;
 use ebpf_command::input::MAX_INPUT;
 use ebpf_insn::decode::decode;
@@ -31,7 +26,6 @@ use ebpf_object_file::lines::{Line, Lines};
 use ebpf_object_file::source::lines_of;
 use ebpf_text::line::line;
 use std::alloc::{AllocError, Global};
-use std::io::{Read, Write};
 
 // Writes the line of the instruction at a slot, if one begins there.
 fn write_insn_in(
@@ -141,8 +135,8 @@ fn source_function(
     }
 }
 
-// The response to a file.
-fn source_input(
+/// The response to a file, with the lines of C. It fails only where an allocation fails.
+pub(crate) fn source_input(
     alloc: Global,
     format: Format,
     file: &[u8],
@@ -157,30 +151,4 @@ fn source_input(
         Ok(function) => source_function(alloc, format, file, function),
         Err(fault) => answer_object_fault(alloc, format, file, fault),
     }
-}
-
-/// Reads an object file and writes the instructions of a function of it, as [`crate::list::list`] does, with a line `; FILE:LINE: TEXT`
-/// before those of each line of C. Where the file has no lines, the instructions are written alone. Where the name is empty, it is the
-/// file's only function.
-///
-/// # Errors
-/// Those of [`crate::list::list`].
-pub fn list_source<R: Read, W: Write>(
-    alloc: Global,
-    reader: &mut R,
-    writer: &mut W,
-    format: Format,
-    function: &str,
-) -> Result<Done, EngineFault>
-    // The instructions and the lines of the function are written, or the fault of the file, and nothing else.
-    ensures response { Writes (RespondsSource format function.now) (R.remaining reader.old) (W.contents writer.old) (W.contents writer.new) result }
-    // Of a file without lines, it is what `list` writes of the function.
-    ensures plain { WritesPlain format (RespondsList format Raw) function.now (R.remaining reader.old) (W.contents writer.old) (W.contents writer.new) result }
-    ensures consumed { Reads (R.remaining reader.old) (R.remaining reader.new) result }
-    ensures untouched { IfErr result (λ fault. fault ≢ Output → writer.new ≡ writer.old) }
-    ensures beginning { WritesBeginning (RespondsSource format function.now) (R.remaining reader.old) (W.contents writer.old) (W.contents writer.new) result }
-{
-    respond(alloc, reader, writer, |file| {
-        source_input(alloc, format, file, function)
-    })
 }

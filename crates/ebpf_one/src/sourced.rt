@@ -2,7 +2,7 @@
 
 ghost use Rattle.std.specs.Prelude.{◌≡◌, ◌<◌, ◌++◌, IfOk, OnOk, None, length, slice_index_or, string_bytes};
 ghost use Rattle.ebpf_explain.specs.StackWords.{texts_below};
-ghost use Rattle.ebpf_verify.specs.Looked.{subject_of};
+ghost use Rattle.ebpf_verify.specs.Traced.{subject_of};
 ghost use Rattle.ebpf_one.specs.Formats.{column_member, place_in, source_row_in};
 ghost use Rattle.ebpf_one.specs.KnownObjects.{known_in, slot_in};
 ghost use Rattle.ebpf_one.specs.Sourced.{heading, held_before, listed_lines, place_row, sourced_slot, with_line};
@@ -12,8 +12,9 @@ use crate::json_text::{write_source_head, write_source_tail};
 use ebpf_command::answer::Answer;
 use ebpf_command::format::Format;
 use ebpf_explain::slots::{write_slot, write_slots};
-use ebpf_object_file::lines::{Line, Lines, SourcePlace};
-use ebpf_verify::looked::Looked;
+use ebpf_object_file::holding_line::HoldingLine;
+use ebpf_object_file::lines::{Line, Lines};
+use ebpf_verify::trace::Trace;
 use std::alloc::{AllocError, Global};
 
 /// The lines of C of a function, and the one that holds at each of its slots.
@@ -91,16 +92,16 @@ fn write_slot_in(
     alloc: Global,
     format: Format,
     text: &mut String,
-    looked: &Looked,
+    trace: &Trace,
     slot: usize,
 ) -> Result<(), AllocError>
-    requires inside { slot < length looked.now.entries.now }
+    requires inside { slot < length trace.now.entries.items }
     ensures { OnOk result (string_bytes text.new ≡ string_bytes text.old
-        ++ slot_in format looked.now.flowed.now looked.now.entries.now looked.now.kinds.now slot) }
+        ++ slot_in format trace.now.flowed.now trace.now.entries.items trace.now.kinds.now slot) }
 {
     match format {
-        Format::Text => write_slot(alloc, text, looked, slot),
-        Format::Json => write_slot_objects(alloc, text, looked, slot),
+        Format::Text => write_slot(alloc, text, trace, slot),
+        Format::Json => write_slot_objects(alloc, text, trace, slot),
     }
 }
 
@@ -109,13 +110,13 @@ fn write_known_in(
     alloc: Global,
     format: Format,
     text: &mut String,
-    looked: &Looked,
+    trace: &Trace,
 ) -> Result<(), AllocError>
-    ensures { OnOk result (string_bytes text.new ≡ string_bytes text.old ++ known_in format (subject_of looked.now) looked.now.entries.now) }
+    ensures { OnOk result (string_bytes text.new ≡ string_bytes text.old ++ known_in format (subject_of trace.now) trace.now.entries.items) }
 {
     match format {
-        Format::Text => write_slots(alloc, text, looked),
-        Format::Json => write_objects(alloc, text, looked),
+        Format::Text => write_slots(alloc, text, trace),
+        Format::Json => write_objects(alloc, text, trace),
     }
 }
 
@@ -124,13 +125,13 @@ fn write_sourced(
     alloc: Global,
     format: Format,
     text: &mut String,
-    looked: &Looked,
+    trace: &Trace,
     source: Sourced<'_>,
 ) -> Result<(), AllocError>
     ensures { OnOk result (string_bytes text.new ≡ string_bytes text.old
-        ++ texts_below (length looked.now.entries.now) (sourced_slot format source.entry (subject_of looked.now) looked.now.entries.now)) }
+        ++ texts_below (length trace.now.entries.items) (sourced_slot format source.entry (subject_of trace.now) trace.now.entries.items)) }
 {
-    for slot in 0..looked.entries.len() {
+    for slot in 0..trace.entries.len() {
         let before = held_before(source.holding, slot);
         write_heading(
             format,
@@ -139,7 +140,7 @@ fn write_sourced(
             before,
             held_at(source.holding, slot),
         )?;
-        write_slot_in(alloc, format, text, looked, slot)?;
+        write_slot_in(alloc, format, text, trace, slot)?;
     }
     Ok(())
 }
@@ -149,14 +150,14 @@ pub(crate) fn write_listed(
     alloc: Global,
     format: Format,
     text: &mut String,
-    looked: &Looked,
+    trace: &Trace,
     source: Option<Sourced<'_>>,
 ) -> Result<(), AllocError>
-    ensures { OnOk result (string_bytes text.new ≡ string_bytes text.old ++ listed_lines format source.entry (subject_of looked.now) looked.now.entries.now) }
+    ensures { OnOk result (string_bytes text.new ≡ string_bytes text.old ++ listed_lines format source.entry (subject_of trace.now) trace.now.entries.items) }
 {
     match source {
-        Some(sourced) if sourced.listed => write_sourced(alloc, format, text, looked, sourced),
-        _ => write_known_in(alloc, format, text, looked),
+        Some(sourced) if sourced.listed => write_sourced(alloc, format, text, trace, sourced),
+        _ => write_known_in(alloc, format, text, trace),
     }
 }
 
@@ -171,7 +172,7 @@ pub(crate) fn write_place(
 {
     match line {
         None => Ok(()),
-        Some(line) => write_place_in(format, text, lines, line),
+        Some(line) => write_place_in(format, text, HoldingLine { lines, line }),
     }
 }
 
@@ -182,24 +183,20 @@ fn write_column(text: &mut String, column: u32) -> Result<(), AllocError>
     write!(text, ",\"column\":{column}")
 }
 
-// Writes a line with its column.
-fn write_place_in(
+/// Writes a line with its column. It fails only where an allocation fails.
+pub(crate) fn write_place_in(
     format: Format,
     text: &mut String,
-    lines: Lines<'_>,
-    line: Line,
+    holding: HoldingLine<'_>,
 ) -> Result<(), AllocError>
-    ensures { OnOk result (string_bytes text.new ≡ string_bytes text.old ++ place_in format lines.entry line) }
+    ensures { OnOk result (string_bytes text.new ≡ string_bytes text.old ++ place_in format holding.entry.lines holding.entry.line) }
 {
-    let source = lines.source(line);
     match format {
-        Format::Text => {
-            let place = SourcePlace { source };
-            write!(text, "  {place}\n")
-        }
+        Format::Text => write!(text, "{holding}"),
         Format::Json => {
+            let HoldingLine { lines, line } = holding;
             write_source_head(text, lines, line)?;
-            write_column(text, source.column)?;
+            write_column(text, line.column)?;
             write_source_tail(text, lines, line)?;
             Ok(())
         }

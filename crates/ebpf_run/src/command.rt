@@ -1,11 +1,11 @@
 //! The command line.
 
-ghost use Rattle.std.specs.Prelude.{◌≤◌};
-
 use crate::format::{format_of, json_option};
-use crate::source::{Source, elf_option, function_option, lines_option, raw_option, source_of};
+use crate::input::{elf_option, function_option, input_of, lines_option, raw_option};
 use clap::{Arg, ArgAction, ArgMatches, Command, value_parser};
 use ebpf_command::format::Format;
+use ebpf_one::ask::{Ask, Input};
+use ebpf_script::run_ask::RunAsk;
 use std::alloc::{AllocError, Global};
 
 // After the help of the program and of `one`.
@@ -73,44 +73,29 @@ pub enum Task<'a> {
     Stream(Format),
 }
 
-/// A program, and what it is judged by.
-#[derive(Clone, Copy)]
-pub struct JudgedOptions<'a> {
-    /// What the input is.
-    pub source: Source<'a>,
-    /// The context as hex, or `-` for the empty one.
-    pub context: &'a str,
-    /// The most objects that the program may hold at one time, 0 to 64.
-    pub held: u8,
-}
-
 /// The options of `one`.
 #[derive(Clone, Copy)]
 pub struct OneOptions<'a> {
-    /// The program.
-    pub judged: JudgedOptions<'a>,
+    /// The program, and how it is judged and answered.
+    pub ask: Ask<'a>,
     /// Whether each call of `new` is answered null.
     pub nulls: bool,
-    /// How the answer is written.
-    pub format: Format,
 }
 
 /// The options of `explain`.
 #[derive(Clone, Copy)]
 pub struct ExplainOptions<'a> {
-    /// The program.
-    pub judged: JudgedOptions<'a>,
+    /// The program, and how it is judged and answered.
+    pub ask: Ask<'a>,
     /// Whether the lines of C of an object file are listed too.
     pub lines: bool,
-    /// How the answer is written.
-    pub format: Format,
 }
 
 /// The options of `graph`.
 #[derive(Clone, Copy)]
 pub struct GraphOptions<'a> {
-    /// The program.
-    pub judged: JudgedOptions<'a>,
+    /// The program, and how it is judged. The answer is a text.
+    pub ask: Ask<'a>,
     /// Whether what is known before each block is written too.
     pub states: bool,
 }
@@ -119,7 +104,7 @@ pub struct GraphOptions<'a> {
 #[derive(Clone, Copy)]
 pub struct ListOptions<'a> {
     /// What the input is.
-    pub source: Source<'a>,
+    pub input: Input<'a>,
     /// Whether the lines of C of an object file are written too.
     pub lines: bool,
     /// How the answer is written.
@@ -130,7 +115,7 @@ pub struct ListOptions<'a> {
 #[derive(Clone, Copy)]
 pub struct LayOutOptions<'a> {
     /// What the input is.
-    pub source: Source<'a>,
+    pub input: Input<'a>,
     /// How the answer is written.
     pub format: Format,
 }
@@ -147,18 +132,10 @@ pub struct CheckOptions {
 /// The options of `run`.
 #[derive(Clone, Copy)]
 pub struct RunOptions {
-    /// How the answer is written, and the table.
-    pub format: Format,
-    /// How many workers run the jobs, 1 to 64.
-    pub workers: u32,
-    /// How many passes the reaper makes in addition to the script's, 0 to 1000.
-    pub reaps: u32,
-    /// Whether a table of what the caches and the workers did is printed.
+    /// What is asked of it.
+    pub ask: RunAsk,
+    /// Whether a table of what the caches and the workers did is printed, in the format of the answer.
     pub stats: bool,
-    /// Whether the answer says how often each instruction was executed.
-    pub covered: bool,
-    ghost workers_fit: { (1 ≤ workers) × (workers ≤ 64) },
-    ghost reaps_fit: { reaps ≤ 1000 },
 }
 
 /// The commands with their options.
@@ -191,7 +168,7 @@ pub fn command<'a>(alloc: Global) -> Result<Command<'a>, AllocError> {
 
 fn one_command<'a>(alloc: Global) -> Result<Command<'a>, AllocError> {
     let one = Command::new(alloc, "one")
-        .about("Runs the program whose hex is in FILE or on standard input")
+        .about("Runs a program once")
         .after_help(ONE_EXAMPLE)
         .arg(json_option(alloc))?
         .arg(nulls_option(alloc))?;
@@ -201,7 +178,7 @@ fn one_command<'a>(alloc: Global) -> Result<Command<'a>, AllocError> {
 fn explain_command<'a>(alloc: Global) -> Result<Command<'a>, AllocError> {
     let explain = Command::new(alloc, "explain")
         .about(
-            "Describes what is known before each instruction of the program whose hex is in FILE or on standard input, and why it is refused",
+            "Describes what is known before each instruction of a program, and why it is refused",
         )
         .after_help(EXPLAIN_EXAMPLE)
         .arg(json_option(alloc))?
@@ -211,9 +188,7 @@ fn explain_command<'a>(alloc: Global) -> Result<Command<'a>, AllocError> {
 
 fn graph_command<'a>(alloc: Global) -> Result<Command<'a>, AllocError> {
     let graph = Command::new(alloc, "graph")
-        .about(
-            "Writes the basic blocks of the program whose hex is in FILE or on standard input as a graph for dot",
-        )
+        .about("Writes the basic blocks of a program as a graph for dot")
         .after_help(GRAPH_EXAMPLE)
         .arg(states_option(alloc))?;
     with_judged_program(alloc, graph)
@@ -242,9 +217,9 @@ fn with_program<'a>(alloc: Global, command: Command<'a>) -> Result<Command<'a>, 
 }
 
 fn file_argument<'a>(alloc: Global) -> Arg<'a> {
-    Arg::new(alloc, "file").value_name("FILE").help(
-        "The file to read; standard input where it is - or not given",
-    )
+    Arg::new(alloc, "file")
+        .value_name("FILE")
+        .help("The file to read; standard input if it is - or not given")
 }
 
 fn context_option<'a>(alloc: Global) -> Arg<'a> {
@@ -273,7 +248,7 @@ fn nulls_option<'a>(alloc: Global) -> Arg<'a> {
 
 fn list_command<'a>(alloc: Global) -> Result<Command<'a>, AllocError> {
     let list = Command::new(alloc, "list")
-        .about("Lists the instructions of the program whose hex is in FILE or on standard input")
+        .about("Lists the instructions of a program")
         .after_help(LIST_EXAMPLE)
         .arg(json_option(alloc))?
         .arg(lines_option(alloc)?)?;
@@ -282,9 +257,7 @@ fn list_command<'a>(alloc: Global) -> Result<Command<'a>, AllocError> {
 
 fn lay_out_command<'a>(alloc: Global) -> Result<Command<'a>, AllocError> {
     let lay_out = Command::new(alloc, "lay-out")
-        .about(
-            "Reorders the program whose hex is in FILE or on standard input so that every jump goes forward",
-        )
+        .about("Reorders the instructions of a program so that every jump goes forward")
         .after_help(LAY_OUT_EXAMPLE)
         .arg(json_option(alloc))?;
     with_program(alloc, lay_out)
@@ -292,16 +265,14 @@ fn lay_out_command<'a>(alloc: Global) -> Result<Command<'a>, AllocError> {
 
 fn assemble_command<'a>(alloc: Global) -> Result<Command<'a>, AllocError> {
     Command::new(alloc, "assemble")
-        .about(
-            "Assembles the instructions in FILE or on standard input, in the words that list writes, to hex",
-        )
+        .about("Assembles instructions, in the words that list writes, to hex")
         .after_help(ASSEMBLE_EXAMPLE)
         .arg(file_argument(alloc))
 }
 
 fn check_command<'a>(alloc: Global) -> Result<Command<'a>, AllocError> {
     Command::new(alloc, "check")
-        .about("Checks the script in FILE or on standard input: programs, and jobs that run them")
+        .about("Checks a script: programs, and jobs that run them")
         .after_help(CHECK_EXAMPLE)
         .arg(explain_option(alloc))?
         .arg(json_option(alloc))?
@@ -317,9 +288,7 @@ fn explain_option<'a>(alloc: Global) -> Arg<'a> {
 
 fn replay_command<'a>(alloc: Global) -> Result<Command<'a>, AllocError> {
     Command::new(alloc, "replay")
-        .about(
-            "Replays the script in FILE or on standard input: programs, and events in their runs",
-        )
+        .about("Replays a script: programs, and the events of their runs")
         .after_help(REPLAY_EXAMPLE)
         .arg(json_option(alloc))?
         .arg(file_argument(alloc))
@@ -327,9 +296,7 @@ fn replay_command<'a>(alloc: Global) -> Result<Command<'a>, AllocError> {
 
 fn run_command<'a>(alloc: Global) -> Result<Command<'a>, AllocError> {
     let run = Command::new(alloc, "run")
-        .about(
-            "Runs the script in FILE or on standard input: programs, and jobs for workers to run",
-        )
+        .about("Runs a script: programs, and jobs for workers to run")
         .after_help(RUN_EXAMPLE);
     run.arg(workers_option(alloc))?
         .arg(reaps_option(alloc))?
@@ -371,7 +338,7 @@ fn reaps_option<'a>(alloc: Global) -> Arg<'a> {
         .value_name("N")
         .value_parser(value_parser!(u32).range(0..=1000))
         .default_value("0")
-        .help("How many passes the reaper makes in addition to the script's, 0 to 1000")
+        .help("How many passes the reaper makes besides the script's, 0 to 1000")
 }
 
 fn stats_option<'a>(alloc: Global) -> Arg<'a> {
@@ -425,10 +392,11 @@ fn file_of<'a>(name: &str, given: &ArgMatches<'a>) -> Option<&'a str> {
     }
 }
 
-// The program, and what it is judged by.
-fn judged_options<'a>(given: &ArgMatches<'a>) -> JudgedOptions<'a> {
-    JudgedOptions {
-        source: source_of(given),
+// A program, and how it is judged and answered.
+fn asked<'a>(given: &ArgMatches<'a>, format: Format) -> Ask<'a> {
+    Ask {
+        input: input_of(given),
+        format,
         context: given.get_str("context").unwrap_or("-"),
         held: given.get_one::<u8>("held").unwrap_or(0),
     }
@@ -437,25 +405,23 @@ fn judged_options<'a>(given: &ArgMatches<'a>) -> JudgedOptions<'a> {
 // The options of `one`.
 fn one_options<'a>(given: &ArgMatches<'a>) -> OneOptions<'a> {
     OneOptions {
-        judged: judged_options(given),
+        ask: asked(given, format_of(given)),
         nulls: given.get_flag("nulls"),
-        format: format_of(given),
     }
 }
 
 // The options of `explain`.
 fn explain_options<'a>(given: &ArgMatches<'a>) -> ExplainOptions<'a> {
     ExplainOptions {
-        judged: judged_options(given),
+        ask: asked(given, format_of(given)),
         lines: given.get_flag("source"),
-        format: format_of(given),
     }
 }
 
 // The options of `graph`.
 fn graph_options<'a>(given: &ArgMatches<'a>) -> GraphOptions<'a> {
     GraphOptions {
-        judged: judged_options(given),
+        ask: asked(given, Format::Text),
         states: given.get_flag("states"),
     }
 }
@@ -463,7 +429,7 @@ fn graph_options<'a>(given: &ArgMatches<'a>) -> GraphOptions<'a> {
 // The options of `list`.
 fn list_options<'a>(given: &ArgMatches<'a>) -> ListOptions<'a> {
     ListOptions {
-        source: source_of(given),
+        input: input_of(given),
         lines: given.get_flag("source"),
         format: format_of(given),
     }
@@ -472,7 +438,7 @@ fn list_options<'a>(given: &ArgMatches<'a>) -> ListOptions<'a> {
 // The options of `lay-out`.
 fn lay_out_options<'a>(given: &ArgMatches<'a>) -> LayOutOptions<'a> {
     LayOutOptions {
-        source: source_of(given),
+        input: input_of(given),
         format: format_of(given),
     }
 }
@@ -493,11 +459,12 @@ fn run_options(given: &ArgMatches<'_>) -> Option<RunOptions> {
     if workers < 1 || workers > MAX_WORKERS || reaps > MAX_REAPS {
         return None;
     }
-    Some(RunOptions {
+    let ask = RunAsk {
         format: format_of(given),
+        covered: given.get_flag("covered"),
         workers,
         reaps,
-        stats: given.get_flag("stats"),
-        covered: given.get_flag("covered"),
-    })
+    };
+    let stats = given.get_flag("stats");
+    Some(RunOptions { ask, stats })
 }

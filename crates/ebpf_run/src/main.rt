@@ -3,31 +3,31 @@
 //! This crate reads the command line, opens the file that is named and has the standard streams. What a command writes is a function of
 //! what it reads and of its options, errors included, and it writes nothing else. That is the contract of [`one`] and [`list`], which
 //! read hex and write plain text; of [`ebpf_one::one::one`], [`ebpf_one::list::list`], [`ebpf_one::explain::explain`],
-//! [`ebpf_one::graph::graph`] and [`ebpf_one::lay_out::lay_out`]; of the same over an object file ([`ebpf_one::object_commands`],
-//! [`ebpf_one::source_list`], [`ebpf_one::explain_object`]); of [`ebpf_assemble::assemble::assemble`],
-//! [`ebpf_script::check_script::check_script`], [`ebpf_script::explained_check::explained_check`] and
-//! [`ebpf_script::replay_script::replay_script`]. What `run` writes is such a text for some outcome of the jobs, since threads decide which
+//! [`ebpf_one::graph::graph`] and [`ebpf_one::lay_out::lay_out`]; of [`ebpf_assemble::assemble::assemble`],
+//! [`ebpf_script::check_script::check_script`] and [`ebpf_script::replay_script::replay_script`]. What `run` writes is such a text for some outcome of the jobs, since threads decide which
 //! requests for objects are granted and what is found on a shelf: that is the contract of [`ebpf_script::run_script::run_script`]. `stream`
 //! answers each line of its input, and has its own contract: [`ebpf_stream::stream::stream`]. These are all that it calls.
 #![tactic(auto)]
 
 mod command;
 mod format;
+mod input;
 mod plain;
 mod programs;
-mod source;
 
-use crate::command::{CheckOptions, Request, RunOptions, Task, command, request_of};
+use crate::command::{Request, RunOptions, Task, command, request_of};
 pub use crate::plain::{list, one};
-use crate::programs::{perform_explain, perform_graph, perform_lay_out, perform_list, perform_one};
+use crate::programs::{perform_list, perform_one};
 use clap::Error;
 use clap::error::ErrorKind;
 use ebpf_assemble::assemble::assemble;
 use ebpf_command::done::{Done, EngineFault};
 use ebpf_command::input::MAX_INPUT;
+use ebpf_one::explain::explain;
+use ebpf_one::graph::graph;
+use ebpf_one::lay_out::lay_out;
 use ebpf_script::check_script::check_script;
-use ebpf_script::explained_check::explained_check;
-use ebpf_script::meter::{Meter, NoMeter};
+use ebpf_script::meter::{Meter, MissMeter};
 use ebpf_script::replay_script::replay_script;
 use ebpf_script::run_script::run_script;
 use ebpf_script::watch::{TABLE_BYTES, Watch};
@@ -118,11 +118,19 @@ fn perform<R: AllocGlobal + Clock + Eprint + Input + Print + Threads + Wait + Sy
     let done = match task {
         Task::One(options) => perform_one(alloc, reader, &mut writer, options),
         Task::List(options) => perform_list(alloc, reader, &mut writer, options),
-        Task::Explain(options) => perform_explain(alloc, reader, &mut writer, options),
-        Task::Graph(options) => perform_graph(alloc, reader, &mut writer, options),
-        Task::LayOut(options) => perform_lay_out(alloc, reader, &mut writer, options),
+        Task::Explain(options) => explain(alloc, reader, &mut writer, &options.ask, options.lines),
+        Task::Graph(options) => graph(alloc, reader, &mut writer, &options.ask, options.states),
+        Task::LayOut(options) => lay_out(
+            alloc,
+            reader,
+            &mut writer,
+            options.format,
+            &options.input,
+        ),
         Task::Assemble => assemble(alloc, reader, &mut writer),
-        Task::Check(options) => perform_check(alloc, reader, &mut writer, options),
+        Task::Check(options) => {
+            check_script(alloc, reader, &mut writer, options.format, options.explain)
+        }
         Task::Replay(format) => replay_script(alloc, reader, &mut writer, format),
         Task::Run(options) => run_or_advise(rt, reader, &mut writer, options),
         Task::Stream(format) => stream(alloc, reader, &mut rt.reader(), &mut writer, format),
@@ -133,58 +141,53 @@ fn perform<R: AllocGlobal + Clock + Eprint + Input + Print + Threads + Wait + Sy
     })
 }
 
-// Does `check`.
-fn perform_check<I: Read, W: Write>(
-    alloc: Global,
-    reader: &mut I,
-    writer: &mut W,
-    options: CheckOptions,
-) -> Result<Done, EngineFault> {
-    let CheckOptions { format, explain } = options;
-    if explain {
-        explained_check(alloc, reader, writer, format)
-    } else {
-        check_script(alloc, reader, writer, format)
-    }
-}
-
-// Does the jobs of a script. If it is refused because it is too long (S1), prints what takes such a script.
+// Does the jobs of a script, and prints advice where there is some: what takes a script that is refused because it is too long (S1),
+// and that workers missed an object which another had taken off a shelf.
 fn run_or_advise<R: AllocGlobal + Clock + Eprint + Threads + Wait + Sync, I: Read, W: Write>(
     rt: &R,
     reader: &mut I,
     writer: &mut W,
     options: RunOptions,
 ) -> Result<Done, EngineFault> {
+    let workers = options.ask.workers;
     let mut input = reader.take(MOST_READ);
-    let done = run_jobs(rt, &mut input, writer, options)?;
+    let (done, misses) = run_jobs(rt, &mut input, writer, options)?;
+    // The text is written; nobody is left to tell where standard error is closed.
     if input.limit() == 0 {
-        // The text is written; nobody is left to tell where standard error is closed.
         let _ = eprintln!(rt;
             "ebpf_run: the script has more than {MAX_INPUT} bytes: run-many cuts such a script, and runs the parts"
+        );
+    }
+    if workers > 1 && misses > 0 {
+        let _ = eprintln!(rt;
+            "ebpf_run: {misses} calls of swap got nothing from a shelf that had been filled: another job of the {workers} workers may have held the object"
         );
     }
     Ok(done)
 }
 
-// Does the jobs of a script, and prints what the caches and the workers did where that is asked for.
+// Does the jobs of a script, and prints what the caches and the workers did where that is asked for. Beside what was done it gives
+// how often a shelf that had been filled was found empty.
 fn run_jobs<R: AllocGlobal + Clock + Eprint + Threads + Wait + Sync, I: Read, W: Write>(
     rt: &R,
     reader: &mut I,
     writer: &mut W,
     options: RunOptions,
-) -> Result<Done, EngineFault> {
+) -> Result<(Done, u128), EngineFault> {
     if !options.stats {
-        return run_with(rt, reader, writer, options, &mut NoMeter);
+        let mut meter = MissMeter { misses: 0 };
+        let done = run_with(rt, reader, writer, options, &mut meter)?;
+        return Ok((done, meter.misses));
     }
     // Room for the table comes first, so that where there is none nothing is run.
     let mut table = String::with_capacity(rt.alloc(), TABLE_BYTES)?;
     let mut watch = Watch::start(rt);
     let done = run_with(rt, reader, writer, options, &mut watch)?;
-    watch.write_table(options.format, &mut table)?;
+    watch.write_table(options.ask.format, &mut table)?;
     if eprint!(rt; "{table}").is_err() {
         return Err(EngineFault::Output);
     }
-    Ok(done)
+    Ok((done, watch.misses()))
 }
 
 // Does the jobs of a script, with a meter.
@@ -195,17 +198,7 @@ fn run_with<R: AllocGlobal + Threads + Wait + Sync, I: Read, W: Write, M: Meter>
     options: RunOptions,
     meter: &mut M,
 ) -> Result<Done, EngineFault> {
-    run_script(
-        rt,
-        rt.alloc(),
-        reader,
-        writer,
-        options.format,
-        options.covered,
-        options.workers,
-        options.reaps,
-        meter,
-    )
+    run_script(rt, rt.alloc(), reader, writer, options.ask, meter)
 }
 
 // Prints why a file can't be opened, and gives the exit status.

@@ -1,15 +1,14 @@
 //! The commands `one` and `list` over hex, in plain text: what they are without the options `--raw`, `--elf` and `--json`.
 
-ghost use Rattle.std.specs.Prelude.{◌≡◌, ◌≢◌, IfErr};
-ghost use Rattle.ebpf_command.specs.declared.done.EngineFault.TheVariants.{Output};
 ghost use Rattle.ebpf_command.specs.declared.format.Format.TheVariants.{Text};
-ghost use Rattle.ebpf_command.specs.Writing.{Writes, WritesBeginning, Reads};
+ghost use Rattle.ebpf_command.specs.Writing.{Performs};
 ghost use Rattle.ebpf_one.specs.declared.form.Form.TheVariants.{Hex};
 ghost use Rattle.ebpf_one.specs.ListText.{RespondsList};
 ghost use Rattle.ebpf_one.specs.OneText.{Responds};
 
 use ebpf_command::done::{Done, EngineFault};
 use ebpf_command::format::Format;
+use ebpf_one::ask::{Ask, Input};
 use ebpf_one::form::Form;
 use ebpf_one::list::list as list_program;
 use ebpf_one::one::one as run_program;
@@ -33,22 +32,16 @@ pub fn one<R: Read, W: Write>(
     held: u8,
     nulls: bool,
 ) -> Result<Done, EngineFault>
-    // The text of the input and the options is written, and nothing else.
-    ensures response { Writes (Responds Text Hex context.now held nulls) (R.remaining reader.old) (W.contents writer.old) (W.contents writer.new) result }
-    ensures consumed { Reads (R.remaining reader.old) (R.remaining reader.new) result }
-    ensures untouched { IfErr result (λ fault. fault ≢ Output → writer.new ≡ writer.old) }
-    ensures beginning { WritesBeginning (Responds Text Hex context.now held nulls) (R.remaining reader.old) (W.contents writer.old) (W.contents writer.new) result }
+    ensures { Performs (Responds Text Hex context.now held nulls) (R.remaining reader.old) (R.remaining reader.new) (W.contents writer.old) (W.contents writer.new)
+        writer.old writer.new result }
 {
-    run_program(
-        alloc,
-        reader,
-        writer,
-        Format::Text,
-        Form::Hex,
+    let ask = Ask {
+        input: Input::Program(Form::Hex),
+        format: Format::Text,
         context,
         held,
-        nulls,
-    )
+    };
+    run_program(alloc, reader, writer, &ask, nulls)
 }
 
 /// Reads a program as hex and writes its instructions, or why its bytes are no program. Its flow is not checked, nor what its
@@ -62,11 +55,9 @@ pub fn list<R: Read, W: Write>(
     reader: &mut R,
     writer: &mut W,
 ) -> Result<Done, EngineFault>
-    // The text of the input is written, and nothing else.
-    ensures response { Writes (RespondsList Text Hex) (R.remaining reader.old) (W.contents writer.old) (W.contents writer.new) result }
-    ensures consumed { Reads (R.remaining reader.old) (R.remaining reader.new) result }
-    ensures untouched { IfErr result (λ fault. fault ≢ Output → writer.new ≡ writer.old) }
-    ensures beginning { WritesBeginning (RespondsList Text Hex) (R.remaining reader.old) (W.contents writer.old) (W.contents writer.new) result }
+    ensures { Performs (RespondsList Text Hex) (R.remaining reader.old) (R.remaining reader.new) (W.contents writer.old) (W.contents writer.new)
+        writer.old writer.new result }
 {
-    list_program(alloc, reader, writer, Format::Text, Form::Hex)
+    let input = Input::Program(Form::Hex);
+    list_program(alloc, reader, writer, Format::Text, &input, false)
 }

@@ -1,14 +1,19 @@
 -- The explained verdicts on the programs of a script, one after another.
-use Rattle.std.proofs.Common.{◌≡◌, ◌||◌, ◌&&◌, ℕ, true, false, Bool, List, [], ◌∷◌, ◌++◌, map, string_bytes, refl, sym, ap, ◌∙◌, append_assoc, arith}
+use Rattle.std.proofs.Common.{◌≡◌, ◌||◌, ℕ, true, false, Bool, List, [], ◌∷◌, ◌++◌, map, string_bytes, refl, sym, ap, ◌∙◌, append_assoc, arith}
 use Rattle.std.proofs.lemmas.List.{map-append}
 use Rattle.std.proofs.lemmas.Grind.{flat_map-append, common_steps}
 use Rattle.std.proofs.lemmas.List.Folds.{list_any-append}
 use Rattle.ebpf_state.specs.declared.kinds.KindRow.{KindRow}
 use Rattle.ebpf_verify.specs.declared.decl.Decl.{Decl}
+use Rattle.ebpf_verify.specs.declared.examined.Examined.{Examined}
+use Rattle.ebpf_verify.specs.declared.examined.Examined.TheVariants.{Undecoded, Misled}
+use Rattle.ebpf_verify.specs.declared.examined.Examined.TheVariants as examined
+use Rattle.ebpf_verify.specs.Examined.{IsExamined}
 use Rattle.ebpf_verify.specs.Subject.{Subject}
 use Rattle.ebpf_command.specs.declared.format.Format.{Format}
 use Rattle.ebpf_command.specs.declared.judge.Judged.{Judged}
-use Rattle.ebpf_command.specs.declared.judge.Judged.TheVariants.{Accepted, Refused}
+use Rattle.ebpf_command.specs.Judging.{judged_as}
+use Rattle.ebpf_explain.specs.Why.{why_of}
 use Rattle.ebpf_script.specs.declared.verdicts.Verdicts.{Verdicts}
 use Rattle.ebpf_script.specs.Explained.{Explained, IsTold, explained_lines, verdicts_of}
 use Rattle.ebpf_script.specs.ExplainedKept.{AreExplained}
@@ -29,11 +34,17 @@ append_nil_of xs = grind (arith, common_steps)
 
 -- ---- what is said of one program
 
-pub nothing_told : (asked : Bool) (judged : Judged) (bytes : List ℕ) (decl : Decl) (rows : List KindRow) → (asked && is_refused judged) ≡ false
-    → IsTold asked judged bytes decl rows []
-nothing_told true (Accepted s) bytes decl rows none = refl
-nothing_told true (Refused code slot) bytes decl rows none = absurd cc
-nothing_told false judged bytes decl rows none = refl
+pub not_asked : (asked : Bool) (judged : Judged) (bytes : List ℕ) (decl : Decl) (rows : List KindRow) (why : List ℕ) → asked ≡ false → why ≡ []
+    → IsTold asked judged bytes decl rows why
+not_asked false judged bytes decl rows why is none = none
+not_asked true judged bytes decl rows why is none = absurd cc
+
+pub why_told : (bytes : List ℕ) (decl : Decl) (rows : List KindRow) (e : Examined) (why : List ℕ) → IsExamined bytes decl rows e
+    → why ≡ why_of bytes decl rows e → IsTold true (judged_as e) bytes decl rows why
+why_told bytes decl rows (Undecoded slot code) why is same = record { examined = Undecoded slot code; is_examined = is; is = same }
+why_told bytes decl rows (Misled p slot code) why is same = record { examined = Misled p slot code; is_examined = is; is = same }
+why_told bytes decl rows (examined.Refused p slot code) why is same = record { examined = examined.Refused p slot code; is_examined = is; is = same }
+why_told bytes decl rows (examined.Accepted s) why is same = same
 
 -- ---- a verdict more
 

@@ -25,9 +25,8 @@ pub mod StatsObjects
 pub mod Tables
 pub mod Timing
 pub mod ScriptText
-pub mod CheckText
 pub mod ScriptFaults
-pub mod ExplainedCheckText
+pub mod CheckText
 pub mod ReplayText
 pub mod ReportForms
 pub mod CoveredLines

@@ -26,7 +26,7 @@ cache_rows _ = []
 abbrev pub jobs_line : Stats → List ℕ
 jobs_line s =
     codes "jobs " ++ (decimal s.jobs ++ (codes " steps " ++ (decimal s.steps ++ (codes " clashes " ++ (decimal s.clashes ++
-    (codes " strays " ++ (decimal s.strays ++ codes "\n")))))))
+    (codes " strays " ++ (decimal s.strays ++ (codes " misses " ++ (decimal s.misses ++ codes "\n")))))))))
 
 abbrev pub worker_line : (worker jobs : ℕ) → List ℕ
 worker_line worker jobs = codes "worker " ++ (decimal worker ++ (codes " jobs " ++ (decimal jobs ++ codes "\n")))

@@ -28,7 +28,7 @@ caches_counts _ = []
 abbrev pub jobs_counts : Stats → List ℕ
 jobs_counts s =
     codes "{\"jobs\":" ++ (decimal s.jobs ++ (codes ",\"steps\":" ++ (decimal s.steps ++ (codes ",\"clashes\":" ++ (decimal s.clashes ++
-    (codes ",\"strays\":" ++ (decimal s.strays ++ codes "}\n")))))))
+    (codes ",\"strays\":" ++ (decimal s.strays ++ (codes ",\"misses\":" ++ (decimal s.misses ++ codes "}\n")))))))))
 
 abbrev pub worker_object : (worker jobs : ℕ) → List ℕ
 worker_object worker jobs = codes "{\"worker\":" ++ (decimal worker ++ (codes ",\"jobs\":" ++ (decimal jobs ++ codes "}\n")))

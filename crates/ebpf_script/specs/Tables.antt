@@ -15,3 +15,8 @@ table_in Json s t = table_objects s t
 abbrev pub table_if : Format → Option Stats → Times → List ℕ
 table_if format None t = []
 table_if format (Some s) t = table_in format s t
+
+-- how often a shelf that had been filled was found empty; never where no jobs were done
+abbrev pub misses_if : Option Stats → ℕ
+misses_if None = 0
+misses_if (Some s) = s.misses

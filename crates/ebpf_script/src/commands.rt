@@ -2,10 +2,9 @@
 //!
 //! A caller that wants one of these calls `check_script`, `replay_script` or `run_script`, which do the work.
 
-ghost use Rattle.std.specs.Prelude.{◌≡◌, ◌≢◌, ◌≤◌, false, IfErr};
-ghost use Rattle.ebpf_command.specs.declared.done.EngineFault.TheVariants.{Output};
+ghost use Rattle.std.specs.Prelude.{◌≤◌, false};
 ghost use Rattle.ebpf_command.specs.declared.format.Format.TheVariants.{Text};
-ghost use Rattle.ebpf_command.specs.Writing.{Writes, WritesBeginning, Reads};
+ghost use Rattle.ebpf_command.specs.Writing.{Performs};
 ghost use Rattle.ebpf_script.specs.CheckText.{RespondsCheck};
 ghost use Rattle.ebpf_script.specs.ReplayText.{RespondsReplay};
 ghost use Rattle.ebpf_script.specs.RunText.{RespondsRun};
@@ -13,6 +12,7 @@ ghost use Rattle.ebpf_script.specs.RunText.{RespondsRun};
 use crate::check_script::check_script;
 use crate::meter::NoMeter;
 use crate::replay_script::replay_script;
+use crate::run_ask::RunAsk;
 use crate::run_script::run_script;
 use ebpf_command::done::{Done, EngineFault};
 use ebpf_command::format::Format;
@@ -31,13 +31,10 @@ pub fn check<R: Read, W: Write>(
     reader: &mut R,
     writer: &mut W,
 ) -> Result<Done, EngineFault>
-    // The text of the input is written, and nothing else.
-    ensures response { Writes (RespondsCheck Text) (R.remaining reader.old) (W.contents writer.old) (W.contents writer.new) result }
-    ensures consumed { Reads (R.remaining reader.old) (R.remaining reader.new) result }
-    ensures untouched { IfErr result (λ fault. fault ≢ Output → writer.new ≡ writer.old) }
-    ensures beginning { WritesBeginning (RespondsCheck Text) (R.remaining reader.old) (W.contents writer.old) (W.contents writer.new) result }
+    ensures { Performs (RespondsCheck false Text) (R.remaining reader.old) (R.remaining reader.new) (W.contents writer.old) (W.contents writer.new)
+        writer.old writer.new result }
 {
-    check_script(alloc, reader, writer, Format::Text)
+    check_script(alloc, reader, writer, Format::Text, false)
 }
 
 /// Reads a script of events, judges its programs, makes the world after the events, and writes what became of each run.
@@ -50,11 +47,8 @@ pub fn replay<R: Read, W: Write>(
     reader: &mut R,
     writer: &mut W,
 ) -> Result<Done, EngineFault>
-    // The text of the input is written, and nothing else.
-    ensures response { Writes (RespondsReplay Text) (R.remaining reader.old) (W.contents writer.old) (W.contents writer.new) result }
-    ensures consumed { Reads (R.remaining reader.old) (R.remaining reader.new) result }
-    ensures untouched { IfErr result (λ fault. fault ≢ Output → writer.new ≡ writer.old) }
-    ensures beginning { WritesBeginning (RespondsReplay Text) (R.remaining reader.old) (W.contents writer.old) (W.contents writer.new) result }
+    ensures { Performs (RespondsReplay Text) (R.remaining reader.old) (R.remaining reader.new) (W.contents writer.old) (W.contents writer.new)
+        writer.old writer.new result }
 {
     replay_script(alloc, reader, writer, Format::Text)
 }
@@ -75,21 +69,14 @@ pub fn run<R: Threads + Wait + Sync, I: Read, W: Write>(
 ) -> Result<Done, EngineFault>
     requires workers { (1 ≤ workers) × (workers ≤ 64) }
     requires reaps { reaps ≤ 1000 }
-    // A text of the input is written, and nothing else.
-    ensures response { Writes (RespondsRun false Text) (I.remaining reader.old) (W.contents writer.old) (W.contents writer.new) result }
-    ensures consumed { Reads (I.remaining reader.old) (I.remaining reader.new) result }
-    ensures untouched { IfErr result (λ fault. fault ≢ Output → writer.new ≡ writer.old) }
-    ensures beginning { WritesBeginning (RespondsRun false Text) (I.remaining reader.old) (W.contents writer.old) (W.contents writer.new) result }
+    ensures { Performs (RespondsRun false Text) (I.remaining reader.old) (I.remaining reader.new) (W.contents writer.old) (W.contents writer.new)
+        writer.old writer.new result }
 {
-    run_script(
-        rt,
-        alloc,
-        reader,
-        writer,
-        Format::Text,
-        false,
+    let ask = RunAsk {
+        format: Format::Text,
+        covered: false,
         workers,
         reaps,
-        &mut NoMeter,
-    )
+    };
+    run_script(rt, alloc, reader, writer, ask, &mut NoMeter)
 }

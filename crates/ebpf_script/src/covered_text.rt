@@ -8,6 +8,7 @@ ghost use Rattle.std.specs.Option.{option_copied};
 ghost use Rattle.ebpf_script.specs.ReadScripts.{named};
 
 use crate::reader::script::Programs;
+use crate::run_ask::RunAsk;
 use ebpf_command::format::Format;
 use ebpf_cover::counts::Counts;
 use ebpf_cover::cover::cover;
@@ -23,8 +24,7 @@ use worker_pool::{Jobs, PackedReports};
 pub(crate) fn write_covered_in(
     alloc: Global,
     text: &mut String,
-    covered: bool,
-    format: Format,
+    ask: RunAsk,
     programs: &Programs,
     accepted: &[Verified],
     jobs: &Jobs,
@@ -32,12 +32,12 @@ pub(crate) fn write_covered_in(
 ) -> Result<(), AllocError>
     requires known { AreKnown accepted.now }
     requires all { length reports.now ≡ length jobs.now }
-    ensures { OnOk result (string_bytes text.new ≡ string_bytes text.old ++ covered_lines covered format (map named programs.now.entries) accepted.now jobs.now reports.now) }
+    ensures { OnOk result (string_bytes text.new ≡ string_bytes text.old ++ covered_lines ask.covered ask.format (map named programs.now.entries) accepted.now jobs.now reports.now) }
 {
-    if !covered {
+    if !ask.covered {
         return Ok(());
     }
-    write_covered(alloc, text, format, programs, accepted, jobs, reports)
+    write_covered(alloc, text, ask.format, programs, accepted, jobs, reports)
 }
 
 // Writes after a text what the jobs of each program executed.

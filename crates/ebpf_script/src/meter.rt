@@ -3,6 +3,7 @@
 ghost use Rattle.std.specs.Prelude.{◌≡◌, All, length, sum_by};
 ghost use Rattle.worker_pool.specs.Outcomes.{IsEvenTotal};
 
+use crate::outcome_stats::misses_in;
 use worker_pool::{Outcome, PackedReports};
 
 /// A part of what `run` does. Each follows the one before.
@@ -39,6 +40,32 @@ impl Meter for NoMeter {
 
     fn came(&mut self, outcome: Outcome<PackedReports>) -> PackedReports {
         let Outcome { reports, .. } = outcome;
+        reports
+    }
+}
+
+/// A meter that counts the calls of `swap` that got nothing from a shelf that had been filled before.
+#[derive(Clone, Copy)]
+pub struct MissMeter {
+    pub misses: u128,
+}
+
+impl Meter for MissMeter {
+    ghost use Rattle.std.specs.Prelude.{◌≡◌};
+    ghost use Rattle.ebpf_script.specs.Stats.{misses_in};
+
+    fn ended(&mut self, _stage: Stage) {}
+
+    fn came(&mut self, outcome: Outcome<PackedReports>) -> PackedReports
+        ensures reports { result ≡ outcome.reports }
+        ensures misses { self.new.misses ≡ misses_in outcome.shelves }
+    {
+        let Outcome {
+            reports,
+            shelves,
+            ..
+        } = outcome;
+        self.misses = misses_in(&shelves);
         reports
     }
 }

@@ -1,11 +1,11 @@
 //! The counts of an outcome.
 
-ghost use Rattle.std.specs.Prelude.{◌≡◌, All, length, sum_by};
+ghost use Rattle.std.specs.Prelude.{◌≡◌, ◌+◌, All, length, sum_by};
 ghost use Rattle.worker_pool.specs.Outcomes.{IsEvenTotal};
-ghost use Rattle.ebpf_script.specs.Stats.{AreStatsOf, steps_in};
+ghost use Rattle.ebpf_script.specs.Stats.{AreStatsOf, misses_in, steps_in};
 
 use crate::stats::Stats;
-use worker_pool::{Outcome, PackedReports};
+use worker_pool::{Outcome, PackedReports, ShelfTotals};
 
 /// The reports of an outcome that adds up, and its stats.
 pub(crate) fn stats_of(outcome: Outcome<PackedReports>) -> (PackedReports, Stats)
@@ -18,7 +18,7 @@ pub(crate) fn stats_of(outcome: Outcome<PackedReports>) -> (PackedReports, Stats
         reports,
         totals,
         clashes,
-        shelves: _,
+        shelves,
         strays,
         jobs_done,
     } = outcome;
@@ -26,11 +26,27 @@ pub(crate) fn stats_of(outcome: Outcome<PackedReports>) -> (PackedReports, Stats
         totals,
         clashes,
         strays,
+        misses: misses_in(&shelves),
         jobs: reports.len(),
         steps: steps_in(&reports),
         jobs_done,
     };
     (reports, stats)
+}
+
+/// How many calls of `swap` got nothing from a shelf that had been filled before.
+pub(crate) fn misses_in(shelves: &[ShelfTotals; 3]) -> u128
+    ensures { result ≡ misses_in shelves.now }
+{
+    let [cells, records, blocks] = shelves;
+    sum_of(cells.misses, records.misses, blocks.misses)
+}
+
+// Three numbers, added up.
+fn sum_of(cells: u64, records: u64, blocks: u64) -> u128
+    ensures { result ≡ cells + records + blocks }
+{
+    u128::from(cells) + u128::from(records) + u128::from(blocks)
 }
 
 // How many instructions the reports tell.

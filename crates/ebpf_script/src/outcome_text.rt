@@ -183,7 +183,12 @@ pub fn write_shelves(text: &mut String, shelves: &[ShelfTotals; 3]) -> Result<()
 fn write_shelf(text: &mut String, shelf: u8, totals: &ShelfTotals) -> Result<(), AllocError>
     ensures { OnOk result (string_bytes text.new ≡ string_bytes text.old ++ shelf_line shelf totals.now) }
 {
-    let ShelfTotals { puts, gets, left } = totals;
+    let ShelfTotals {
+        puts,
+        gets,
+        left,
+        ..
+    } = totals;
     if *puts == 0 {
         return Ok(());
     }

@@ -1,11 +1,10 @@
 //! The command `replay`: programs, and a list of events over runs of them.
 
-ghost use Rattle.std.specs.Prelude.{◌≡◌, ◌≢◌, ◌++◌, string_bytes, IfOk, IfErr, OnOk};
+ghost use Rattle.std.specs.Prelude.{◌≡◌, ◌++◌, string_bytes, IfOk, OnOk};
 ghost use Rattle.ebpf_core.specs.Replay.{world_after};
 ghost use Rattle.ebpf_core.specs.Shown.{OfWorld};
 ghost use Rattle.ebpf_machine.specs.Kinds.{AreKnown};
-ghost use Rattle.ebpf_command.specs.declared.done.EngineFault.TheVariants.{Output};
-ghost use Rattle.ebpf_command.specs.Writing.{Writes, WritesBeginning, Reads};
+ghost use Rattle.ebpf_command.specs.Writing.{Performs};
 ghost use Rattle.ebpf_script.specs.ReadScripts.{parsed_script};
 ghost use Rattle.ebpf_script.specs.ReplayText.{RespondsReplay, DoesReplay, world_response, world_in, stopped_line, stopped_object, stopped_in};
 ghost use Rattle.ebpf_script.specs.ScriptText.{RespondsScript};
@@ -38,11 +37,8 @@ pub fn replay_script<R: Read, W: Write>(
     writer: &mut W,
     format: Format,
 ) -> Result<Done, EngineFault>
-    // The text of the input is written, and nothing else.
-    ensures response { Writes (RespondsReplay format) (R.remaining reader.old) (W.contents writer.old) (W.contents writer.new) result }
-    ensures consumed { Reads (R.remaining reader.old) (R.remaining reader.new) result }
-    ensures untouched { IfErr result (λ fault. fault ≢ Output → writer.new ≡ writer.old) }
-    ensures beginning { WritesBeginning (RespondsReplay format) (R.remaining reader.old) (W.contents writer.old) (W.contents writer.new) result }
+    ensures { Performs (RespondsReplay format) (R.remaining reader.old) (R.remaining reader.new) (W.contents writer.old) (W.contents writer.new)
+        writer.old writer.new result }
 {
     respond(
         alloc,

@@ -1,10 +1,9 @@
 //! The command `run`: programs, and jobs that workers do with them.
 
-ghost use Rattle.std.specs.Prelude.{◌≡◌, ◌≢◌, ◌+◌, ◌≤◌, ◌<◌, ◌^◌, ◌++◌, string_bytes, None, Ok, IfOk, IfErr, OnOk};
+ghost use Rattle.std.specs.Prelude.{◌≡◌, ◌+◌, ◌≤◌, ◌<◌, ◌^◌, ◌++◌, string_bytes, None, Ok, IfOk, OnOk};
 ghost use Rattle.ebpf_machine.specs.Kinds.{AreKnown};
 ghost use Rattle.worker_pool.specs.Admission.{pool_fault};
-ghost use Rattle.ebpf_command.specs.declared.done.EngineFault.TheVariants.{Output};
-ghost use Rattle.ebpf_command.specs.Writing.{Writes, WritesBeginning, Reads};
+ghost use Rattle.ebpf_command.specs.Writing.{Performs};
 ghost use Rattle.ebpf_script.specs.ReadScripts.{parsed_script};
 ghost use Rattle.ebpf_script.specs.Runnable.{IsRunnable};
 ghost use Rattle.ebpf_script.specs.RunAnswers.{run_response, totals_in};
@@ -18,6 +17,7 @@ use crate::outcome_text::write_totals;
 use crate::reader::read_script;
 use crate::reader::script::{Dialect, Script, ScriptStop};
 use crate::run_answer::{JobsAnswer, RunAnswer};
+use crate::run_ask::RunAsk;
 use crate::verdicts::verdicts_on;
 use ebpf_command::answer::{Answer, answer_fault_in};
 use ebpf_command::done::{Done, EngineFault};
@@ -31,9 +31,9 @@ use std::thread::Threads;
 use vmem_arena::MAX_PAGES;
 use worker_pool::{Host, Jobs, NoGate, Outcome, PackedReports, PoolFault, run_job_list};
 
-/// Reads a script of jobs, judges its programs, has the jobs done by this many workers, and writes what came of each, of the caches and of
-/// the shelves, and where that is asked for how often all jobs executed each instruction. The reaper makes this many passes beside them,
-/// and those of the script's lines. The meter learns how far it is, and what the caches and the workers did.
+/// Reads a script of jobs, judges its programs, has the jobs done by the workers, and writes what came of each, of the caches and of the
+/// shelves, and if that is asked for how often all jobs executed each instruction. The reaper makes its passes beside them, and those of the
+/// script's lines. The meter learns how far it is, and what the caches and the workers did.
 ///
 /// # Errors
 /// `Input` where a read failed and `NoMemory` where an allocation failed: nothing was written then. `Output` where a write
@@ -43,23 +43,15 @@ pub fn run_script<R: Threads + Wait + Sync, I: Read, W: Write, M: Meter>(
     alloc: Global,
     reader: &mut I,
     writer: &mut W,
-    format: Format,
-    covered: bool,
-    workers: u32,
-    reaps: u32,
+    ask: RunAsk,
     meter: &mut M,
 ) -> Result<Done, EngineFault>
-    requires workers { (1 ≤ workers) × (workers ≤ 64) }
-    requires reaps { reaps ≤ 1000 }
-    // A text of the input is written, and nothing else.
-    ensures response { Writes (RespondsRun covered format) (I.remaining reader.old) (W.contents writer.old) (W.contents writer.new) result }
-    ensures consumed { Reads (I.remaining reader.old) (I.remaining reader.new) result }
-    ensures untouched { IfErr result (λ fault. fault ≢ Output → writer.new ≡ writer.old) }
-    ensures beginning { WritesBeginning (RespondsRun covered format) (I.remaining reader.old) (W.contents writer.old) (W.contents writer.new) result }
+    ensures { Performs (RespondsRun ask.covered ask.format) (I.remaining reader.old) (I.remaining reader.new) (W.contents writer.old) (W.contents writer.new)
+        writer.old writer.new result }
 {
     let input = read_input(alloc, reader)?;
     meter.ended(Stage::Reading);
-    let answer = answer_text(rt, alloc, format, covered, input, workers, reaps, meter)?;
+    let answer = answer_text(rt, alloc, ask, input, meter)?;
     let done = answer.write(alloc, writer)?;
     meter.ended(Stage::Writing);
     Ok(done)
@@ -69,23 +61,18 @@ pub fn run_script<R: Threads + Wait + Sync, I: Read, W: Write, M: Meter>(
 fn answer_text<R: Threads + Wait + Sync, M: Meter>(
     rt: &R,
     alloc: Global,
-    format: Format,
-    covered: bool,
+    ask: RunAsk,
     text: Vec<u8>,
-    workers: u32,
-    reaps: u32,
     meter: &mut M,
 ) -> Result<RunAnswer, AllocError>
-    requires workers { (1 ≤ workers) × (workers ≤ 64) }
-    requires reaps { reaps ≤ 1000 }
-    ensures { IfOk result (λ answer. RespondsRun covered format text.items (run_response answer)) }
+    ensures { IfOk result (λ answer. RespondsRun ask.covered ask.format text.items (run_response answer)) }
 {
     let script = read_script(alloc, Dialect::Jobs, &text);
     drop(text);
     match script {
-        Ok(script) => answer_script(rt, alloc, format, covered, script, workers, reaps, meter),
+        Ok(script) => answer_script(rt, alloc, ask, script, meter),
         Err(ScriptStop::Fault(fault)) => {
-            let beginning = answer_fault_in(alloc, format, fault.code, fault.line)?;
+            let beginning = answer_fault_in(alloc, ask.format, fault.code, fault.line)?;
             Ok(RunAnswer {
                 beginning,
                 jobs: None,
@@ -99,19 +86,15 @@ fn answer_text<R: Threads + Wait + Sync, M: Meter>(
 fn answer_script<R: Threads + Wait + Sync, M: Meter>(
     rt: &R,
     alloc: Global,
-    format: Format,
-    covered: bool,
+    ask: RunAsk,
     script: Script,
-    workers: u32,
-    reaps: u32,
     meter: &mut M,
 ) -> Result<RunAnswer, AllocError>
-    requires workers { (1 ≤ workers) × (workers ≤ 64) }
-    requires reaps { reaps + script.passes < 2 ^ 32 }
+    requires reaps { ask.reaps + script.passes < 2 ^ 32 }
     requires runnable { IsRunnable (parsed_script script) }
-    ensures { IfOk result (λ answer. RespondsScript format (DoesRun covered format) (Ok (parsed_script script)) (run_response answer)) }
+    ensures { IfOk result (λ answer. RespondsScript ask.format (DoesRun ask.covered ask.format) (Ok (parsed_script script)) (run_response answer)) }
 {
-    let verdicts = verdicts_on(alloc, format, &script.programs)?;
+    let verdicts = verdicts_on(alloc, ask.format, &script.programs)?;
     if verdicts.refused {
         return Ok(RunAnswer {
             beginning: verdicts.into_answer(),
@@ -132,17 +115,16 @@ fn answer_script<R: Threads + Wait + Sync, M: Meter>(
         alloc,
         &host,
         &script.jobs,
-        workers,
-        reaps + script.passes,
+        ask.workers,
+        ask.reaps + script.passes,
     )?;
     meter.ended(Stage::Running);
     let mut totals = String::new(alloc);
-    write_totals_in(&mut totals, format, &outcome)?;
+    write_totals_in(&mut totals, ask.format, &outcome)?;
     write_covered_in(
         alloc,
         &mut totals,
-        covered,
-        format,
+        ask,
         &script.programs,
         &host.programs,
         &script.jobs,
@@ -151,7 +133,7 @@ fn answer_script<R: Threads + Wait + Sync, M: Meter>(
     Ok(RunAnswer {
         beginning,
         jobs: Some(JobsAnswer {
-            format,
+            format: ask.format,
             reports: meter.came(outcome),
             totals,
         }),

@@ -15,6 +15,8 @@ pub struct Stats {
     pub clashes: u64,
     /// How many objects that came off a shelf went back to their cache since the table had their slots as another's.
     pub strays: u64,
+    /// How many calls of `swap` got nothing from a shelf that had been filled before.
+    pub misses: u128,
     /// How many jobs there were.
     pub jobs: usize,
     /// How many of them each worker did.

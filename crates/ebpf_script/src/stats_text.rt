@@ -68,11 +68,12 @@ fn write_jobs(text: &mut String, stats: &Stats) -> Result<(), AllocError>
         steps,
         clashes,
         strays,
+        misses,
         ..
     } = stats;
     write!(
         text,
-        "jobs {jobs} steps {steps} clashes {clashes} strays {strays}\n"
+        "jobs {jobs} steps {steps} clashes {clashes} strays {strays} misses {misses}\n"
     )
 }
 

@@ -1,7 +1,9 @@
 //! The verdicts on the programs of a script.
 
-ghost use Rattle.std.specs.Prelude.{◌≡◌, ◌++◌, ◌||◌, ◌&&◌, map, string_bytes, IfOk, OnOk};
+ghost use Rattle.std.specs.Prelude.{◌≡◌, ◌++◌, ◌||◌, map, string_bytes, IfOk, OnOk};
 ghost use Rattle.ebpf_state.specs.Kinds.{AreKinds};
+ghost use Rattle.ebpf_verify.specs.Examined.{IsExamined};
+ghost use Rattle.ebpf_command.specs.Judging.{judged_as};
 ghost use Rattle.ebpf_script.specs.Explained.{IsTold};
 ghost use Rattle.ebpf_script.specs.ExplainedKept.{AreExplained, IsOneMore};
 ghost use Rattle.ebpf_script.specs.ReadScripts.{named};
@@ -13,9 +15,10 @@ use crate::verdict_text::write_verdict;
 use ebpf_command::answer::Answer;
 use ebpf_command::done::Done;
 use ebpf_command::format::Format;
-use ebpf_command::judge::{Judged, judge};
+use ebpf_command::judge::Judged;
 use ebpf_explain::why::write_why;
 use ebpf_state::kinds::{KindRow, kinds};
+use ebpf_verify::examined::{Examined, examine};
 use ebpf_verify::verified::Verified;
 use std::alloc::{AllocError, Global};
 
@@ -90,9 +93,9 @@ impl Verdicts {
         requires { AreKinds rows.now }
         ensures { OnOk result (IsOneMore format explain name.now program.now.bytes.items program.now.decl rows.now self.old self.new) }
     {
-        let judged = judge(alloc, &program.bytes, program.decl, rows)?;
-        let why = why_of(alloc, program, rows, explain, &judged)?;
-        self.add(format, name, judged, why.as_str())
+        let examined = examine(alloc, &program.bytes, program.decl, rows)?;
+        let why = why_of(alloc, program, rows, explain, &examined)?;
+        self.add(format, name, Judged::of(examined), why.as_str())
     }
 
     // One verdict more.
@@ -122,21 +125,23 @@ fn why_of(
     program: &ProgramText,
     rows: &[KindRow],
     explain: bool,
-    judged: &Judged,
+    examined: &Examined,
 ) -> Result<String, AllocError>
-    requires { AreKinds rows.now }
-    ensures { IfOk result (λ why. IsTold explain judged.now program.now.bytes.items program.now.decl rows.now (string_bytes why)) }
+    requires kinds { AreKinds rows.now }
+    requires examined { IsExamined program.now.bytes.items program.now.decl rows.now examined.now }
+    ensures { IfOk result (λ why. IsTold explain (judged_as examined.now) program.now.bytes.items program.now.decl rows.now (string_bytes why)) }
 {
     let mut why = String::new(alloc);
-    if is_told(explain, judged) {
-        write_why(alloc, &mut why, &program.bytes, program.decl, rows)?;
+    if !explain {
+        return Ok(why);
     }
+    write_why(
+        alloc,
+        &mut why,
+        &program.bytes,
+        examined,
+        program.decl,
+        rows,
+    )?;
     Ok(why)
-}
-
-// Whether it is said why a program is refused: where it is, and that is asked for.
-fn is_told(explain: bool, judged: &Judged) -> bool
-    ensures { result ≡ (explain && is_refused judged.now) }
-{
-    explain && matches!(judged, Judged::Refused { .. })
 }

@@ -1,7 +1,7 @@
 //! A meter that takes the time of each stage, and makes a table of it and of what it learns.
 
 ghost use Rattle.std.specs.Prelude.{◌≡◌, ◌++◌, None, string_bytes, OnOk};
-ghost use Rattle.ebpf_script.specs.Tables.{table_if, table_in};
+ghost use Rattle.ebpf_script.specs.Tables.{misses_if, table_if, table_in};
 ghost use Rattle.ebpf_script.specs.Timing.{micros_between, with_time};
 
 use crate::meter::{Meter, Stage};
@@ -51,6 +51,16 @@ impl<'a, C: Clock> Watch<'a, C> {
                 writing: None,
             },
             stats: None,
+        }
+    }
+
+    /// How many calls of `swap` got nothing from a shelf that had been filled before: none where no jobs were done.
+    pub fn misses(&self) -> u128
+        ensures { result ≡ misses_if self.now.stats }
+    {
+        match &self.stats {
+            Some(stats) => stats.misses,
+            None => 0,
         }
     }
 

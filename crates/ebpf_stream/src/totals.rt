@@ -52,6 +52,8 @@ fn kind_totals(counts: Counts, is_shelved: bool) -> KindTotals
             puts: counts.puts,
             gets: counts.gets,
             left,
+            // Nobody else takes what lies there.
+            misses: 0,
         },
     }
 }

@@ -1,10 +1,10 @@
-//! How much the depot and the slabs of a cache had to do, for whoever looks after it.
+//! How much the depot and the slabs of a cache had to do, and how often a shelf was missed, for whoever looks after them.
 //!
 //! *The reason.* A hand that works as it should asks its layer, and only now and then the depot; the depot makes a magazine or the
 //! slabs get a page while the load grows, and not later. These counts show where that is not so. They are counted where it is done,
 //! under the lock that is held there anyway, and stop at the greatest number. No clause but those here speaks of them.
 
-ghost use Rattle.std.specs.Prelude.{◌≡◌};
+ghost use Rattle.std.specs.Prelude.{◌≡◌, false};
 
 /// What the depot of a cache did.
 #[derive(Clone, Copy)]
@@ -75,5 +75,40 @@ impl PageCounts {
     /// A pass of the reaper gave n pages back.
     pub(crate) fn reap(&mut self, pages: u32) {
         self.reaped = self.reaped.saturating_add(u64::from(pages));
+    }
+}
+
+/// How often a shelf was found empty that had been filled before.
+#[derive(Clone, Copy)]
+pub(crate) struct Misses {
+    // An object was put there.
+    filled: bool,
+    count: u64,
+}
+
+impl Misses {
+    /// Nothing was put there.
+    pub(crate) fn none() -> Misses
+        ensures { (result.filled ≡ false) × (result.count ≡ 0) }
+    {
+        Misses {
+            filled: false,
+            count: 0,
+        }
+    }
+
+    /// One exchange more: whether an object was given, and whether one was got.
+    pub(crate) fn exchange(&mut self, given: bool, got: bool) {
+        if self.filled && !got {
+            self.count = self.count.saturating_add(1);
+        }
+        self.filled = self.filled || given;
+    }
+
+    /// How often it was.
+    pub(crate) fn count(self) -> u64
+        ensures { result ≡ self.count }
+    {
+        self.count
     }
 }

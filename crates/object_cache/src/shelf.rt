@@ -13,6 +13,7 @@ ghost use Rattle.std.specs.Prelude.{◌≡◌, ◌+◌, ◌^◌, ◌<◌, ◌≤
 ghost use Rattle.object_cache.specs.ShelfView.{HasSpares, new_hand, one_if};
 ghost use Rattle.object_cache.specs.declared.count.TheConstants.{MAX_HANDS, PARTS};
 
+use crate::activity::Misses;
 use crate::brief_lock::lock_briefly;
 use crate::count::{MAX_HANDS, count};
 use crate::spare::Spare;
@@ -28,6 +29,7 @@ struct Board<K: Kind, A: Ledger, B: Ledger> {
     puts: Book<A>,
     gets: Book<B>,
     own: Spare<A, B>,
+    misses: Misses,
     ghost even: { puts.total ≡ gets.total + one_if object },
 }
 
@@ -50,15 +52,19 @@ impl<K: Kind, A: Ledger, B: Ledger> Board<K, A, B> {
             object,
             puts: put_book,
             gets: get_book,
+            misses,
             ..
         } = self;
-        if given.is_some() {
+        let is_given = given.is_some();
+        if is_given {
             put_book.add(puts, 1);
         }
         let got = mem::replace(object, given);
-        if got.is_some() {
+        let is_got = got.is_some();
+        if is_got {
             get_book.add(gets, 1);
         }
+        misses.exchange(is_given, is_got);
         got
     }
 }
@@ -95,6 +101,8 @@ pub struct Left<K: Kind> {
     pub puts: u64,
     /// How often one was got.
     pub gets: u64,
+    /// How often nothing was got, though an object had been put there before. It stops at the greatest number.
+    pub misses: u64,
     pub ghost even: { puts ≡ gets + one_if object },
 }
 
@@ -161,6 +169,7 @@ impl<K: Kind, A: Ledger, B: Ledger> Shelf<K, A, B> {
                 puts,
                 gets,
                 own: Spare::new(put_rest, get_rest),
+                misses: Misses::none(),
             }),
             spares,
             hands: 0,
@@ -232,6 +241,7 @@ impl<K: Kind, A: Ledger, B: Ledger> Shelf<K, A, B> {
             puts: mut put_book,
             gets: mut get_book,
             own,
+            misses,
         } = board.into_inner();
         let (mut all_puts, mut all_gets) = gathered(own, spares, made as usize);
         let mut puts = 0;
@@ -251,6 +261,11 @@ impl<K: Kind, A: Ledger, B: Ledger> Shelf<K, A, B> {
         hands.destroy_empty();
         put_book.audit(&mut all_puts);
         get_book.audit(&mut all_gets);
-        Left { object, puts, gets }
+        Left {
+            object,
+            puts,
+            gets,
+            misses: misses.count(),
+        }
     }
 }

@@ -17,13 +17,17 @@ pub struct Host {
     pub programs: Vec<Verified>,
 }
 
-/// What a shelf did: how often an object was put there and how often one was got from there by runs, and how many, one at most, it
-/// held at the end.
+/// What a shelf did.
 #[derive(Clone, Copy, Debug, PartialEq, Eq)]
 pub struct ShelfTotals {
+    /// How often a run put an object there.
     pub puts: u64,
+    /// How often a run got one from there.
     pub gets: u64,
+    /// How many it held at the end: one, or none.
     pub left: u64,
+    /// How often a run got none, though one had been put there before. It stops at the greatest number.
+    pub misses: u64,
 }
 
 /// What came of all jobs, with their reports in some form: [`Reports`], or as [`crate::PackedReports`].

@@ -164,6 +164,7 @@ impl<K: Kind, L: Names> Supply<K, L> {
             object,
             puts: _,
             gets: _,
+            misses: _,
         } = shelf.close(shelf_hands);
         match object {
             Some(_) => unreachable!(),
@@ -189,10 +190,21 @@ impl<K: Kind, L: Names> Supply<K, L> {
             mut hands,
             shelf_hands,
         } = free;
-        let Left { object, puts, gets } = shelf.close(shelf_hands);
+        let Left {
+            object,
+            puts,
+            gets,
+            misses,
+        } = shelf.close(shelf_hands);
         let left = closing.put_back(&cache, object, &mut hands[0], seat);
         let totals = cache.close(closing.rt, hands, closing.arena);
-        (ShelfTotals { puts, gets, left }, totals)
+        let shelf_totals = ShelfTotals {
+            puts,
+            gets,
+            left,
+            misses,
+        };
+        (shelf_totals, totals)
     }
 }
 

@@ -7,12 +7,12 @@ use Rattle.ebpf_one.proofs.explain_json.write_entry.Goals as goal
 
 pub returns-in-Unreached : goal.returns-in-Unreached
 returns-in-Unreached c =
-    let looked = c.args.looked.now in
-    rw c.in-Unreached.is (pushed _ (string_bytes c.args.text.now) _ (entry_objects looked.kinds.now (comers looked.flowed.now c.args.slot) Unreached)
+    let trace = c.args.trace.now in
+    rw c.in-Unreached.is (pushed _ (string_bytes c.args.text.now) _ (entry_objects trace.kinds.now (comers trace.flowed.now c.args.slot) Unreached)
     c.push_str.ensures.bytes)
 
 pub returns-in-Conflict : goal.returns-in-Conflict
 returns-in-Conflict c =
-    let looked = c.args.looked.now in
-    rw c.in-Conflict.is (pushed _ (string_bytes c.args.text.now) _ (entry_objects looked.kinds.now (comers looked.flowed.now c.args.slot) Conflict)
+    let trace = c.args.trace.now in
+    rw c.in-Conflict.is (pushed _ (string_bytes c.args.text.now) _ (entry_objects trace.kinds.now (comers trace.flowed.now c.args.slot) Conflict)
     c.push_str-in-Conflict.ensures.bytes)

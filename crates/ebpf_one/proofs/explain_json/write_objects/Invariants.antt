@@ -5,4 +5,4 @@ use Rattle.ebpf_one.proofs.explain_json.write_objects.Given as goal
 
 abbrev pub invariant-loop-slot : goal.invariant-loop-slot
 invariant-loop-slot l =
-    string_bytes l.text ≡ string_bytes l.fn.text ++ texts_below l.slot (slot_objects l.looked.flowed.now l.looked.entries.now l.looked.kinds.now)
+    string_bytes l.text ≡ string_bytes l.fn.text ++ texts_below l.slot (slot_objects l.trace.flowed.now l.trace.entries.items l.trace.kinds.now)

@@ -9,10 +9,10 @@ returns-in-Ok-Some c = IfOk-weaker c.explain_lined.result _ _
     c.explain_lined.ensures
 
 pub returns-in-Ok-None : goal.returns-in-Ok-None
-returns-in-Ok-None c = IfOk-weaker c.explain_input.result _ _
+returns-in-Ok-None c = IfOk-weaker c.explain_code.result _ _
     (λ response h. of_no_lines c.args.format c.args.listed c.args.context.now c.args.held c.args.file.now c.args.function _ response c.in-Ok-None.field-0-is
     c.in-Ok-None.ensures.found h)
-    c.explain_input.ensures
+    c.explain_code.ensures
 
 pub returns-in-Err : goal.returns-in-Err
 returns-in-Err c = IfOk-weaker c.explain_unread.result _ _

@@ -4,7 +4,7 @@ use Rattle.ebpf_one.proofs.Explanations.{held_in}
 use Rattle.ebpf_one.proofs.explain_object.explain_lined.Goals as goal
 
 pub returns : goal.returns
-returns c = IfOk-weaker c.explain_input.result _ _
+returns c = IfOk-weaker c.explain_code.result _ _
     (λ response h. record {
       source = record { lines = c.args.lines; holding = c.deref.result; listed = c.args.listed };
       asked = refl;
@@ -13,4 +13,4 @@ returns c = IfOk-weaker c.explain_input.result _ _
       are = held_in c.args.lines c.args.function.place.from _ c.at_slots.new.lines _ c.deref.result.now c.at_slots.ensures.each (search rules) c.deref.ensures.value;
       told = h;
     })
-    c.explain_input.ensures
+    c.explain_code.ensures

@@ -1,18 +1,21 @@
 use Rattle.std.proofs.Common.{rules}
-use Rattle.ebpf_command.proofs.Written.{response_through, begun_through, response_of_shown}
-use Rattle.ebpf_one.specs.GraphText.{GraphsTo}
-use Rattle.ebpf_one.proofs.Graphs.{graph_cuts}
+use Rattle.ebpf_command.proofs.Written.{performs_answer, performs_nothing}
+use Rattle.ebpf_command.specs.declared.format.Format.TheVariants.{Text}
+use Rattle.ebpf_one.specs.ObjectText.{RespondsInput}
+use Rattle.ebpf_one.specs.Shown.{GraphsAs}
+use Rattle.ebpf_one.specs.declared.shown.Shown.TheVariants.{Graph}
+use Rattle.ebpf_one.proofs.ObjectResponses.{input_cuts}
+use Rattle.ebpf_one.proofs.Responses.{shown_cuts}
 use Rattle.ebpf_one.proofs.graph.graph.Goals as goal
 
-pub returns-clause-response : goal.returns-clause-response
-returns-clause-response g c = response_through (GraphsTo c.args.states c.args.form c.args.context.now c.args.held) _ _ _ _ c.respond.ensures.response
-    (λ all response k. response_of_shown (GraphsTo c.args.states c.args.form c.args.context.now c.args.held) (graph_cuts c.args.states c.args.form c.args.context.now c.args.held) all
-    response k.0 k.2 (let h = k.1 in search rules))
+pub returns-in_err-input : goal.returns-in_err-input
+returns-in_err-input g c = performs_nothing (RespondsInput Text c.args.ask.now.input (GraphsAs c.args.states c.args.ask.now.context.now c.args.ask.now.held)) _ _ _ c.args.writer.now _ (search rules)
 
-pub returns-clause-consumed : goal.returns-clause-consumed
-returns-clause-consumed g c = c.respond.ensures.consumed
+pub returns-in_err-answer : goal.returns-in_err-answer
+returns-in_err-answer g c = performs_nothing (RespondsInput Text c.args.ask.now.input (GraphsAs c.args.states c.args.ask.now.context.now c.args.ask.now.held)) _ _ _ c.args.writer.now _ (search rules)
 
-pub returns-clause-beginning : goal.returns-clause-beginning
-returns-clause-beginning g c = begun_through (GraphsTo c.args.states c.args.form c.args.context.now c.args.held) _ _ _ _ c.respond.ensures.beginning
-    (λ all response k. response_of_shown (GraphsTo c.args.states c.args.form c.args.context.now c.args.held) (graph_cuts c.args.states c.args.form c.args.context.now c.args.held) all
-    response k.0 k.2 (let h = k.1 in search rules))
+pub returns : goal.returns
+returns g c =
+    performs_answer (RespondsInput Text c.args.ask.now.input (GraphsAs c.args.states c.args.ask.now.context.now c.args.ask.now.held)) (input_cuts Text (GraphsAs c.args.states c.args.ask.now.context.now c.args.ask.now.held) (λ form. shown_cuts (Graph c.args.states) form c.args.ask.now.context.now c.args.ask.now.held) c.args.ask.now.input)
+    _ _ _ _ c.args.writer.now _ _ _ c.in_ok-answer.answer _
+    c.in_ok-input.ensures.read c.in_ok-input.ensures.consumed c.deref.ensures.value c.in_ok-answer.ensures c.write_answer.ensures

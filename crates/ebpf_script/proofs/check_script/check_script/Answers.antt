@@ -1,15 +1,11 @@
 use Rattle.std.proofs.Common.{rules}
-use Rattle.ebpf_command.proofs.Written.{response_through, begun_through, response_of_shown}
-use Rattle.ebpf_script.specs.declared.reader.script.Dialect.TheVariants.{Jobs}
-use Rattle.ebpf_script.specs.CheckText.{RespondsCheck, DoesCheck}
-use Rattle.ebpf_script.proofs.ScriptTextLemmas.{script_cuts}
+use Rattle.ebpf_command.proofs.Written.{performs_through, response_of_shown}
+use Rattle.ebpf_script.specs.CheckText.{RespondsCheck}
+use Rattle.ebpf_script.proofs.ScriptTextLemmas.{check_cuts}
 use Rattle.ebpf_script.proofs.check_script.check_script.Goals as goal
 
-pub returns-clause-response : goal.returns-clause-response
-returns-clause-response g c = response_through (RespondsCheck c.args.format) _ _ _ _ c.respond.ensures.response (λ all response k. response_of_shown (RespondsCheck c.args.format) (script_cuts c.args.format Jobs (DoesCheck c.args.format)) all response k.0 k.2 (let h = k.1 in search rules))
-
-pub returns-clause-consumed : goal.returns-clause-consumed
-returns-clause-consumed g c = c.respond.ensures.consumed
-
-pub returns-clause-beginning : goal.returns-clause-beginning
-returns-clause-beginning g c = begun_through (RespondsCheck c.args.format) _ _ _ _ c.respond.ensures.beginning (λ all response k. response_of_shown (RespondsCheck c.args.format) (script_cuts c.args.format Jobs (DoesCheck c.args.format)) all response k.0 k.2 (let h = k.1 in search rules))
+pub returns : goal.returns
+returns g c =
+    let P = RespondsCheck c.args.explains c.args.format in
+    performs_through P _ _ _ _ _ _ _ c.respond.ensures (λ all response k.
+    response_of_shown P (check_cuts c.args.explains c.args.format) all response k.0 k.2 (let h = k.1 in search rules))

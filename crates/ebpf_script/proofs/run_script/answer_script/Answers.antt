@@ -25,7 +25,7 @@ outcome_of-requires-clause-fine g c κs within =
     let runnable = c.requires.runnable in
     let pages = pages_or c.args.script.pages runnable.pages in
     let declared = contexts_kept _ _ c.in_ok-verdicts.verdicts c.in_ok-verdicts.ensures c.if-verdicts.false in
-    rw (c.unwrap_or.ensures) (none_due _ c.args.workers c.args.script.jobs pages.0 pages.1 c.requires.workers.0 c.requires.workers.1 runnable.few (λ k d lt. rw declared (runnable.declared k d lt)))
+    rw (c.unwrap_or.ensures) (none_due _ c.args.ask.workers c.args.script.jobs pages.0 pages.1 c.args.ask.workers_fit.0 c.args.ask.workers_fit.1 runnable.few (λ k d lt. rw declared (runnable.declared k d lt)))
 
 -- the text after verdicts that are kept, where an outcome may come of the jobs
 told : (covered : Bool) (format : Format) (parsed : ParsedScript) (kept : Verdicts) (k : AreKept format parsed.programs kept) (o : JobsOutcome) (text : List ℕ) → kept.refused ≡ false
@@ -50,15 +50,15 @@ pub returns : goal.returns
 returns g c =
     let kept = c.in_ok-verdicts.verdicts in
     let o = c.in_ok-outcome.outcome in
-    let format = c.args.format in
+    let format = c.args.ask.format in
     let programs = (parsed_script c.args.script).programs in
     let jobs = c.args.script.jobs in
-    let covered = covered_lines c.args.covered format programs kept.accepted.items jobs o.reports in
+    let covered = covered_lines c.args.ask.covered format programs kept.accepted.items jobs o.reports in
     let totals : string_bytes c.write_totals_in.new.text ≡ totals_in format o =
     c.in_ok-write_totals_in.ensures ∙ ap (λ (xs : List ℕ). xs ++ totals_in format o) c.new-totals.ensures.bytes in
     let after : string_bytes c.write_covered_in.new.text ≡ totals_in format o ++ covered =
     c.in_ok-write_covered_in.ensures
-    ∙ (λ n. string_bytes c.write_totals_in.new.text ++ covered_lines c.args.covered format programs (c.deref.ensures.value n) jobs o.reports)
+    ∙ (λ n. string_bytes c.write_totals_in.new.text ++ covered_lines c.args.ask.covered format programs (c.deref.ensures.value n) jobs o.reports)
     ∙ ap (λ (xs : List ℕ). xs ++ covered) totals in
-    told c.args.covered format (parsed_script c.args.script) kept c.in_ok-verdicts.ensures o _ c.if-verdicts.false c.in_ok-outcome.ensures
+    told c.args.ask.covered format (parsed_script c.args.script) kept c.in_ok-verdicts.ensures o _ c.if-verdicts.false c.in_ok-outcome.ensures
     (run_text_is format o (string_bytes kept.text) covered _ _ c.came.ensures after)

@@ -1,5 +1,5 @@
-use Rattle.std.proofs.Common.{refl}
-use Rattle.ebpf_command.proofs.Written.{consumed_by}
+use Rattle.std.proofs.Common.{refl, rules}
+use Rattle.ebpf_command.proofs.Written.{consumed_by, performs_err, performs_nothing}
 use Rattle.ebpf_script.specs.declared.reader.script.Dialect.TheVariants.{Jobs}
 use Rattle.ebpf_script.specs.RunAnswers.{run_response}
 use Rattle.ebpf_script.specs.RunText.{RespondsRun, DoesRun}
@@ -7,15 +7,24 @@ use Rattle.ebpf_script.proofs.RunLemmas.{wrote, wrote_beginning}
 use Rattle.ebpf_script.proofs.ScriptTextLemmas.{script_cuts}
 use Rattle.ebpf_script.proofs.run_script.run_script.Goals as goal
 
-pub returns-in_err-done-clause-beginning : goal.returns-in_err-done-clause-beginning
-returns-in_err-done-clause-beginning g c =
-    wrote_beginning (RespondsRun c.args.covered c.args.format) (script_cuts c.args.format Jobs (DoesRun c.args.covered c.args.format)) _ _ _ _ _ (run_response c.in_ok-answer.answer)
-    c.in_ok-input.ensures.read refl c.in_ok-answer.ensures _ _ c.from_residual-in_err-done.ensures.1 c.in_err-done.ensures.beginning
+pub returns-in_err-input : goal.returns-in_err-input
+returns-in_err-input g c = performs_nothing (RespondsRun c.args.ask.covered c.args.ask.format) _ _ _ c.args.writer.now _ (search rules)
 
-pub returns-clause-response : goal.returns-clause-response
-returns-clause-response g c =
-    wrote (RespondsRun c.args.covered c.args.format) (script_cuts c.args.format Jobs (DoesRun c.args.covered c.args.format)) _ _ _ _ _ (run_response c.in_ok-answer.answer)
-    c.in_ok-input.ensures.read refl c.in_ok-answer.ensures _ c.in_ok-done.ensures.done c.in_ok-done.ensures.written
+pub returns-in_err-answer : goal.returns-in_err-answer
+returns-in_err-answer g c = performs_nothing (RespondsRun c.args.ask.covered c.args.ask.format) _ _ _ c.args.writer.now _ (search rules)
 
-pub returns-clause-consumed : goal.returns-clause-consumed
-returns-clause-consumed g c = consumed_by _ _ _ c.in_ok-input.ensures.read c.in_ok-input.ensures.consumed
+pub returns-in_err-done : goal.returns-in_err-done
+returns-in_err-done g c =
+    performs_err (RespondsRun c.args.ask.covered c.args.ask.format) _ _ _ _ c.args.writer.now _ _ c.from_residual-in_err-done.ensures.0
+    (wrote_beginning (RespondsRun c.args.ask.covered c.args.ask.format) (script_cuts c.args.ask.format Jobs (DoesRun c.args.ask.covered c.args.ask.format)) _ _ _ _ _ (run_response c.in_ok-answer.answer)
+    c.in_ok-input.ensures.read refl c.in_ok-answer.ensures _ _ c.from_residual-in_err-done.ensures.1 c.in_err-done.ensures.beginning)
+    (search rules)
+
+pub returns : goal.returns
+returns g c = record {
+  response = wrote (RespondsRun c.args.ask.covered c.args.ask.format) (script_cuts c.args.ask.format Jobs (DoesRun c.args.ask.covered c.args.ask.format)) _ _ _ _ _ (run_response c.in_ok-answer.answer)
+      c.in_ok-input.ensures.read refl c.in_ok-answer.ensures _ c.in_ok-done.ensures.done c.in_ok-done.ensures.written;
+  consumed = consumed_by _ _ _ c.in_ok-input.ensures.read c.in_ok-input.ensures.consumed;
+  beginning = tt;
+  untouched = tt;
+}

@@ -1,5 +1,5 @@
 use Rattle.ebpf_command.proofs.KindLemmas.{AreRows-kinds}
 use Rattle.ebpf_script.proofs.verdicts.Verdicts.add_on.Goals as goal
 
-pub judge-requires : goal.judge-requires
-judge-requires c = AreRows-kinds c.args.rows.now c.requires
+pub examine-requires : goal.examine-requires
+examine-requires c = AreRows-kinds c.args.rows.now c.requires
