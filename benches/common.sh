@@ -123,7 +123,7 @@ instructions() {
     valgrind --tool=callgrind --callgrind-out-file=/dev/null "$@" 2>&1 > /dev/null | sed -n 's/.*Collected : //p'
 }
 
-# A number over another, to so many decimals, and nothing where it is no number: NUMBER COUNT DECIMALS
+# A number over another, to that many decimals, and nothing if it is no number: NUMBER COUNT DECIMALS
 over() {
     awk -v number="$1" -v count="$2" -v format="%.$3f" 'BEGIN { if (number ~ /^[0-9]+$/) printf format, number / count }'
 }

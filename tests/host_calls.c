@@ -34,7 +34,7 @@ static ebpf_machine machine;
 static ebpf_program program;
 static ebpf_report report;
 static ebpf_refusal refusal;
-static char text[256];
+static char text[512];
 static uint64_t output[4];
 
 static size_t bytes_of(const char *digits, uint8_t *bytes) {
@@ -60,7 +60,7 @@ static ebpf_status load(const char *digits, uint32_t context, uint32_t held) {
     size_t length = bytes_of(digits, bytes);
     mark();
     ebpf_status status = ebpf_program_load(&program, bytes, length, context, held, text, sizeof text, &refusal);
-    /* only a refusal is told, and its sentence ends with a zero */
+    /* only a refusal is reported, and its sentence ends with a zero */
     assert(status == EBPF_REFUSED ? strlen(text) == refusal.length : is_marked(text, sizeof text) && is_marked(&refusal, sizeof refusal));
     return status;
 }
@@ -154,7 +154,7 @@ static unsigned each_refusal(const char *path) {
     return rows;
 }
 
-/* A sentence is cut where there is no more room, and nothing after it is written. Where it fits with a zero, that is written too. */
+/* A sentence is cut if there is no more room, and nothing after it is written. Where it fits with a zero, that is written too. */
 static void a_short_text(void) {
     uint8_t bytes[16];
     size_t length = bytes_of(READ, bytes);
@@ -195,6 +195,35 @@ static int refuses(const char *name, uint32_t context, const char *code, uint32_
            refusal.length < sizeof text && text[refusal.length - 1] == '\n' && !strncmp(text, line, strlen(line));
 }
 
+/* whether the text ends with this */
+static int ends(const char *line) {
+    size_t length = strlen(line);
+    return refusal.length >= length && !strcmp(text + refusal.length - length, line);
+}
+
+/* Under the sentence of a slot that is refused with a context of 15 bytes is its line of C, as far as there is room, and nothing where the
+ * file has no lines or they can't be read. */
+static void each_line(const char *path, const char *name, const char *code, uint32_t slot, const char *line) {
+    char cut[sizeof text];
+    read_object(path);
+    assert(refuses(name, 15, code, slot, "  slot ") && ends(line) && strchr(text, '\n') == text + refusal.length - strlen(line));
+    size_t whole = (size_t)refusal.length;
+    for (size_t room = whole - strlen(line); room <= whole; room++) {
+        memset(cut, 'x', sizeof cut);
+        assert(ebpf_program_load_elf(&program, object, object_length, name, strlen(name), 15, 0, cut, room, &refusal) == EBPF_REFUSED);
+        assert(refusal.length == whole && !memcmp(cut, text, room) && is_marked(cut + room, sizeof cut - room));
+    }
+    uint8_t *table = memmem(object, object_length, ".BTF.ext", 9);
+    assert(table);
+    table[1] = 'C';
+    assert(refuses(name, 15, code, slot, "  slot ") && refusal.length == whole - strlen(line) + 1);
+    table[1] = 'B';
+    table = memmem(object, object_length, "\x9f\xeb\x01", 3); /* where .BTF begins, or .BTF.ext */
+    assert(table);
+    table[2] = 2;
+    assert(refuses(name, 15, code, slot, "  slot ") && refusal.length == whole - strlen(line) + 1);
+}
+
 /* functions with a name and without, the faults of a file, and those of its slots; the files are two.o, table.o, call.o and checksum.o */
 static void each_object(char **paths) {
     const char *numbers = "01000000050000000300000004000000";
@@ -222,6 +251,9 @@ static void each_object(char **paths) {
     assert(run(numbers, 100) == EBPF_DONE && report.exit == 5); /* what was loaded last is kept */
     read_object(paths[3]);
     assert(load_function("", 20, 0) == EBPF_DONE && run(numbers, 100) == EBPF_CONTEXT);
+    each_line(paths[0], "largest", "V8", 7, "\n  ./two.c:14:7: if (words[i] > most)\n");
+    each_line(paths[1], "", "O4", 3, "\n  ./table.c:7:9: sum += weights[at];\n");
+    each_line(paths[2], "entry", "O4", 3, "\n  ./call.c:9:10: u64 a = twice(words[0], words[1]);\n");
     ebpf_machine_free(&machine);
     ebpf_program_free(&program);
 }

@@ -1,5 +1,5 @@
-/* A host of four threads: each runs one program, which was loaded and verified once, on a machine of its own. The first handle of the
- * program is freed while they run. */
+/* A host of four threads: each runs one program, which was loaded and verified once, on a machine of its own, by a handle of its own and by
+ * one that all use at once. The first handle of the program is freed while they run. */
 #include <assert.h>
 #include <pthread.h>
 #include <stdio.h>
@@ -23,7 +23,8 @@ static const uint8_t slots[] = {
 
 struct worker {
     pthread_t thread;
-    ebpf_program program; /* its own handle of the program that all run */
+    ebpf_program program;       /* its own handle of the program that all run */
+    const ebpf_program *common; /* the handle that all use at once */
     uint64_t sum;
 };
 
@@ -35,8 +36,8 @@ static void *work(void *argument) {
         uint8_t context = (uint8_t)i;
         ebpf_program again = {0};
         ebpf_report report;
-        assert(ebpf_program_share(&again, &worker->program) == EBPF_DONE);
-        ebpf_program *program = i % 2 ? &again : &worker->program;
+        assert(ebpf_program_share(&again, i % 2 ? worker->common : &worker->program) == EBPF_DONE);
+        const ebpf_program *program = i % 3 == 0 ? &again : i % 3 == 1 ? &worker->program : worker->common;
         assert(ebpf_machine_run(&machine, program, &context, 1, 100, NULL, 0, &report) == EBPF_DONE && report.granted == 1);
         worker->sum += report.exit;
         ebpf_program_free(&again);
@@ -48,16 +49,19 @@ static void *work(void *argument) {
 
 int main(void) {
     struct worker workers[THREADS] = {0};
-    ebpf_program program = {0};
+    ebpf_program program = {0}, common = {0};
     ebpf_refusal refusal;
     assert(ebpf_program_load(&program, slots, sizeof slots, 1, 1, NULL, 0, &refusal) == EBPF_DONE);
+    assert(ebpf_program_share(&common, &program) == EBPF_DONE);
     for (int i = 0; i < THREADS; i++) assert(ebpf_program_share(&workers[i].program, &program) == EBPF_DONE);
+    for (int i = 0; i < THREADS; i++) workers[i].common = &common;
     for (int i = 0; i < THREADS; i++) assert(pthread_create(&workers[i].thread, NULL, work, &workers[i]) == 0);
     ebpf_program_free(&program);
     for (int i = 0; i < THREADS; i++) {
         assert(pthread_join(workers[i].thread, NULL) == 0);
         assert(workers[i].sum == RUNS * (RUNS - 1) / 2 && !workers[i].program.word);
     }
+    ebpf_program_free(&common);
     printf("threads: %d ran one program %d times each\n", THREADS, RUNS);
     return 0;
 }

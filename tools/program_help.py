@@ -16,7 +16,7 @@ class Option(NamedTuple):
 
 
 class Help(NamedTuple):
-    about: str  # of more than one paragraph where the program has so many
+    about: str  # of several paragraphs if the program has them
     usage: str
     commands: dict  # what each does, by its name
     arguments: dict

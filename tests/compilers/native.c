@@ -48,12 +48,12 @@ number emit(number n)
 
 void *swap(number shelf, void *given)
 {
-    void *stood = shelves[shelf];
+    void *was_there = shelves[shelf];
     shelves[shelf] = given;
     held -= given != NULL;
-    if (stood)
+    if (was_there)
         take();
-    return stood;
+    return was_there;
 }
 
 int main(int count, char **words)

@@ -1,6 +1,6 @@
 // Whether a request is let through: 0 it isn't, 1 it is, 2 it is and is written down, for which its user and path are emitted.
 //
-// The context is the request. All that is decided meets at one place, and what is rare is told apart first.
+// The context is the request. All that is decided meets at one place, and what is rare is tested first.
 //
 // context 6, held 0
 // policy.gcc.hex: gcc 12.2.0, bpf-gcc -O1 -ffreestanding

@@ -1,4 +1,4 @@
-// What an Ethernet frame carries, behind up to two VLAN tags, which are emitted: 4 or 6 for IP, 1 for ARP, 2 for a frame of the old
+// What an Ethernet frame carries, after up to two VLAN tags, which are emitted: 4 or 6 for IP, 1 for ARP, 2 for a frame of the old
 // form, whose type is a length, else 0.
 //
 // The context is the first 22 bytes of the frame. A frame with tags is rare, and goes on where one without does.

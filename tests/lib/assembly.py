@@ -62,7 +62,7 @@ def store_register(size, base, offset, src):
     return slot(0x63 | SIZES[size], int(base), int(src), int(offset))
 
 
-# what stands behind the slot in a line, and what makes its bytes
+# what is after the slot in a line, and what makes its bytes
 FORMS = [
     (r'exit', lambda: slot(0x95)),
     (r'call (-?\d+)', lambda number: slot(0x85, immediate=int(number))),
@@ -81,7 +81,7 @@ FORMS = [
 
 
 def encoded(text):
-    """The bytes of an instruction as it is listed; ValueError where it is none."""
+    """The bytes of an instruction as it is listed; ValueError if it is none."""
     for pattern, encode in FORMS:
         found = re.fullmatch(pattern, text)
         if found:

@@ -4,6 +4,7 @@ The program is the one that ./ebpf_run builds; PROGRAM in the environment may na
 """
 
 import os
+import re
 import subprocess
 import sys
 import traceback
@@ -30,6 +31,12 @@ def called(words, given=b'', seconds=SECONDS, program=PROGRAM, **others):
     except subprocess.TimeoutExpired:
         return Answer(None, '', f'it takes longer than {seconds} seconds')
     return Answer(done.returncode, done.stdout.decode('latin-1'), done.stderr.decode('latin-1'))
+
+
+def is_advice(error, workers):
+    """Whether standard error has nothing, or says that several workers found a shelf empty which had been filled."""
+    advice = rf'ebpf_run: \d+ calls of swap got nothing from a shelf that had been filled: another job of the {workers} workers may have held the object\n'
+    return not error or workers > 1 and bool(re.fullmatch(advice, error))
 
 
 def run(test, *words):

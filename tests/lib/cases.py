@@ -6,7 +6,7 @@ A line of the table is a case:
 
 The program is called with these words and gets INPUT on standard input. It must end with STATUS, write TEXT and nothing
 else on standard output, and nothing on standard error. Blanks round a field are no part of it. A line that begins with #
-is a comment, and blank lines are passed over. No name stands twice.
+is a comment, and blank lines are skipped. Each name is there once.
 
 COMMAND AND OPTIONS are words as in a shell, so that '' is an empty one. A word in brackets, as [--nulls], is an option
 that may be left out: the case is tried without it and with it.
@@ -73,7 +73,7 @@ def with_programs(field):
 
 
 def words_of(command):
-    """The words as they stand: shlex would take the backslashes for its own."""
+    """The words as they are: shlex would take the backslashes for its own."""
     lexer = shlex.shlex(command, posix=True)
     lexer.whitespace_split, lexer.escape, lexer.commenters = True, '', ''
     return list(lexer)
@@ -114,7 +114,7 @@ def cases_of(lines):
         try:
             case = case_of(line)
             if case.name in cases:
-                raise ValueError('a name that stands before')
+                raise ValueError('a name that is there before')
         except ValueError as fault:
             raise ValueError(f'{TABLE.name}: line {number}: {fault}')
         cases[case.name] = case

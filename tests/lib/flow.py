@@ -29,8 +29,8 @@ def blocks_of(data):
     ends = {slot for slot, one in code.items() if targets[slot] is not None or one[0] == EXIT}
     starts = sorted({0, *(to for to in targets.values() if to is not None), *(after[slot] for slot in ends)} & code.keys())
     blocks = {}
-    for first, behind in zip(starts, [*starts[1:], len(data) // 8]):
-        slots = [slot for slot in code if first <= slot < behind]
+    for first, end in zip(starts, [*starts[1:], len(data) // 8]):
+        slots = [slot for slot in code if first <= slot < end]
         last = code[slots[-1]][0]
-        blocks[first] = [(code[slot], targets[slot]) for slot in slots], None if last in (EXIT, JUMP, FAR_JUMP) else behind
+        blocks[first] = [(code[slot], targets[slot]) for slot in slots], None if last in (EXIT, JUMP, FAR_JUMP) else end
     return blocks

@@ -53,7 +53,7 @@ def visible(text):
     return ''.join(character if ' ' <= character <= '~' else '?' for character in text)
 
 
-def told(text):
+def text_of(text):
     """The text that objects on lines stand for; none where a line is no object of a form."""
     try:
         return ''.join(map(lines_of, objects_of(text)))

@@ -103,12 +103,12 @@ def numbers_of_lines(data):
 
 
 def values_of(data, size):
-    """What a number of so many bytes is changed to: 0, 1, the greatest, the length of the file, and one less and more."""
+    """What a number of that many bytes is changed to: 0, 1, the greatest, the length of the file, and one less and more."""
     return [0, 1, 256 ** size - 1, len(data) - 1, len(data), len(data) + 1]
 
 
 def with_number(data, at, size, value):
-    """The file with a number of so many bytes in another's place."""
+    """The file with a number of that many bytes in another's place."""
     return data[:at] + (value % 256 ** size).to_bytes(size, 'little') + data[at + size:]
 
 

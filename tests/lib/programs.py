@@ -14,7 +14,7 @@ class End(NamedTuple):
 
 
 def option(words, name, default):
-    """The word behind an option, where it is there."""
+    """The word after an option, if it is there."""
     return words[words.index(name) + 1] if name in words else default
 
 

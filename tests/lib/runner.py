@@ -41,6 +41,7 @@ def script(name, is_of_program=False):
 
 
 TESTS = [
+    Test('edits-read', ['tests/edits', '--read'], False, 'Reads the edits that must fail, and applies them.'),
     Test('proofs', ['rt', 'ci'], False, 'Proves every crate from nothing.'),
     script('edits-tested'), script('edits'), script('must-not-compile'),
     Test('library', ['tests/library/run']),
@@ -48,7 +49,7 @@ TESTS = [
     *[script(name, True) for name in ('command-line', 'docs', 'commands', 'literals', 'json', 'examples', 'steps', 'graph', 'lay-out', 'compiled', 'object-files', 'orders', 'tallies', 'covered', 'streams', 'stream')],
     script('want-of-memory'),
     *[script(name, True) for name in ('large-inputs', 'worst', 'fuzz', 'stats', 'run-many')],
-    script('host'), script('install'), script('unproved'), script('first-call'), script('benches'), script('reading-list'),
+    script('host'), script('install'), script('unproved'), script('first-call'), script('benches'), script('reading-list'), script('recipes'),
 ]
 
 

@@ -24,7 +24,7 @@ class Worst(NamedTuple):
     text: Callable[[int], str]  # by the number of parts
 
     def given(self, parts):
-        """The input with so many parts."""
+        """The input with that many parts."""
         return self.head + b''.join(map(self.part, range(parts)))
 
     def most(self):
@@ -100,7 +100,7 @@ def straight_states():
 
 
 def each(line, first='', last=''):
-    """The text of so many lines, each with its number, with what comes before and after."""
+    """The text of that many lines, each with its number, with what comes before and after."""
     return lambda parts: first + ''.join(line.format(at) for at in range(parts)) + last
 
 
@@ -139,7 +139,7 @@ def sourced(count, texts):
 
 
 def ledgers(records=0):
-    """The last lines of `replay`, where so many records have joined."""
+    """The last lines of `replay`, where that many records have joined."""
     return ''.join(f'kind {kind} slots {slots} held 0\n' for kind, slots in enumerate((0, records, 0)))
 
 
@@ -154,7 +154,7 @@ def covered_text(jobs):
 # the last lines of `run`, where no object was granted
 CACHES = ''.join(f'cache {name} allocs 0 frees 0 nulls 0 missing 0\n' for name in ('cell', 'record', 'block'))
 
-# Names of 32 letters that the hash of a map that isn't meant for names of strangers takes for one: with its state behind the first
+# Names of 32 letters that the hash of a map that isn't meant for names of strangers takes for one: with its state after the first
 # sixteen letters as the next eight, it multiplies by zero.
 ALIKE = 'ACmk5m0-k71p6U3odA2TtdvX'
 

@@ -10,13 +10,13 @@ use std::alloc::Global;
 use std::process::Abort;
 use vmem_arena::{Arena, Span};
 
-fn tells(rt: &impl Print, call: &str) {
+fn warns(rt: &impl Print, call: &str) {
     let _ = println!(rt; "refused: {call}");
 }
 
 fn arena_again<R: Abort + Print>(rt: &R, alloc: Global) -> Arena {
     let Ok(arena) = Arena::new(alloc, 1) else {
-        tells(rt, "an arena");
+        warns(rt, "an arena");
         return arena_of(rt, alloc, 1);
     };
     arena
@@ -27,7 +27,7 @@ fn grow_again<R: Abort + Print>(rt: &R, slabs: &mut Slabs<CellKind>, span: Span)
     let Err(back) = slabs.grow(span) else {
         return;
     };
-    tells(rt, "a page of objects");
+    warns(rt, "a page of objects");
     holds(rt, !slabs.has(page) && slabs.out() == 0);
     holds(rt, back.first() == page && back.len() == 1);
     holds(rt, slabs.grow(back).is_ok());
@@ -35,7 +35,7 @@ fn grow_again<R: Abort + Print>(rt: &R, slabs: &mut Slabs<CellKind>, span: Span)
 
 fn layer_again<R: Abort + Print>(rt: &R, alloc: Global) -> Layer<CellKind> {
     let Ok(layer) = Layer::new(alloc) else {
-        tells(rt, "a layer");
+        warns(rt, "a layer");
         return layer_of(rt, alloc);
     };
     layer
@@ -43,7 +43,7 @@ fn layer_again<R: Abort + Print>(rt: &R, alloc: Global) -> Layer<CellKind> {
 
 fn magazine_again<R: Abort + Print>(rt: &R, alloc: Global) -> Magazine<CellKind> {
     let Ok(magazine) = Magazine::new(alloc) else {
-        tells(rt, "a magazine");
+        warns(rt, "a magazine");
         return magazine_of(rt, alloc);
     };
     magazine
@@ -53,7 +53,7 @@ fn add_again<R: Abort + Print>(rt: &R, depot: &mut Depot<CellKind>, magazine: Ma
     let Err(back) = depot.add_empty(magazine) else {
         return;
     };
-    tells(rt, "a place in a depot");
+    warns(rt, "a place in a depot");
     if let Err(lost) = depot.add_empty(back) {
         lost.end();
         panic!(rt; "memory is refused once");

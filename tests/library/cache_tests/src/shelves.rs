@@ -186,7 +186,12 @@ fn crowd<
         bits,
         holders,
     } = add_up(rt, alloc, traders);
-    let Left { object, puts, gets } = shelf.close(desks);
+    let Left {
+        object,
+        puts,
+        gets,
+        misses: _,
+    } = shelf.close(desks);
     let (left, last) = match object {
         Some(cell) => {
             let number = number_in(rt, &cell);

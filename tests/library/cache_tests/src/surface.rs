@@ -336,8 +336,14 @@ fn shelved<A: Ledger, B: Ledger, C: Ledger, D: Ledger, R: Wait + Abort>(
         Ok(hands) => hands,
         Err(_) => panic!(rt; "no memory"),
     };
-    let Left { object, puts, gets } = shelf.close(shelf_hands);
+    let Left {
+        object,
+        puts,
+        gets,
+        misses,
+    } = shelf.close(shelf_hands);
     holds(rt, puts == 2 && gets == 1);
+    holds(rt, misses == 1);
     match object {
         Some(left) => hand.give(rt, &cache, left),
         None => panic!(rt; "an object is left"),

@@ -1,6 +1,6 @@
 //! Texts, and the programs that they are. The bytes were written down by hand from the format.
 
-use crate::programs::{column, holds, is_told, program_of};
+use crate::programs::{column, holds, is_text, program_of};
 use crate::text::LINES;
 use ebpf_assembly::assemble::assemble;
 use ebpf_assembly::fault::AssemblyFault;
@@ -160,7 +160,7 @@ fn a_text_is_its_program(rt: HostRuntime) {
         if !row.starts_with('#') {
             let (digits, text) = column(&rt, row);
             let lines = lines_of(&rt, rt.alloc(), text);
-            is_told(
+            is_text(
                 &rt,
                 row,
                 bytes_of(&rt, rt.alloc(), lines.as_bytes()).as_str(),
@@ -174,11 +174,11 @@ fn a_text_is_its_program(rt: HostRuntime) {
 fn a_text_of_no_program_is_refused(rt: HostRuntime) {
     for row in REFUSED.lines() {
         if !row.starts_with('#') {
-            let (told, text) = column(&rt, row);
+            let (want, text) = column(&rt, row);
             let lines = lines_of(&rt, rt.alloc(), text);
             let fault = fault_of(&rt, rt.alloc(), lines.as_bytes());
             let words = fault.to_string(rt.alloc()).expect(&rt, "out of memory");
-            is_told(&rt, row, words.as_str(), told);
+            is_text(&rt, row, words.as_str(), want);
         }
     }
 }
@@ -190,7 +190,7 @@ fn each_instruction_is_read(rt: HostRuntime) {
         if !row.starts_with('#') {
             let (digits, line) = column(&rt, row);
             let (_, text) = line.split_once(": ").expect(&rt, "a line has its slot");
-            is_told(
+            is_text(
                 &rt,
                 row,
                 bytes_of(&rt, rt.alloc(), text.as_bytes()).as_str(),
@@ -211,21 +211,21 @@ fn a_listing_is_its_program(rt: HostRuntime) {
         }
     }
     let program = program_of(&rt, rt.alloc(), digits.as_str());
-    let told = listing(rt.alloc(), &program).expect(&rt, "out of memory");
+    let list = listing(rt.alloc(), &program).expect(&rt, "out of memory");
     holds(
         &rt,
         "the same bytes",
-        bytes_of(&rt, rt.alloc(), told.as_bytes()) == digits,
+        bytes_of(&rt, rt.alloc(), list.as_bytes()) == digits,
     );
 }
 
 #[test]
 fn bytes_of_a_comment_are_any(rt: HostRuntime) {
     let exit = bytes_of(&rt, rt.alloc(), b"exit ; \xff\x00");
-    is_told(&rt, "a comment", exit.as_str(), "9500000000000000");
+    is_text(&rt, "a comment", exit.as_str(), "9500000000000000");
     let fault = fault_of(&rt, rt.alloc(), b"exit\nexit\xff");
     let words = fault.to_string(rt.alloc()).expect(&rt, "out of memory");
-    is_told(
+    is_text(
         &rt,
         "a word",
         words.as_str(),
@@ -233,7 +233,7 @@ fn bytes_of_a_comment_are_any(rt: HostRuntime) {
     );
     let fault = fault_of(&rt, rt.alloc(), b"");
     let words = fault.to_string(rt.alloc()).expect(&rt, "out of memory");
-    is_told(
+    is_text(
         &rt,
         "no text",
         words.as_str(),
@@ -252,7 +252,7 @@ fn a_program_has_4096_slots(rt: HostRuntime) {
         .expect(&rt, "out of memory");
     let fault = fault_of(&rt, rt.alloc(), text.as_bytes());
     let words = fault.to_string(rt.alloc()).expect(&rt, "out of memory");
-    is_told(
+    is_text(
         &rt,
         "a wide one",
         words.as_str(),
@@ -267,7 +267,7 @@ fn a_program_has_4096_slots(rt: HostRuntime) {
     full.push_str("\n; more\nexit").expect(&rt, "out of memory");
     let fault = fault_of(&rt, rt.alloc(), full.as_bytes());
     let words = fault.to_string(rt.alloc()).expect(&rt, "out of memory");
-    is_told(
+    is_text(
         &rt,
         "one more",
         words.as_str(),

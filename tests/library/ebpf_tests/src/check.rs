@@ -1,10 +1,10 @@
-//! What `check` tells of scripts, with `--explain` and without.
+//! What `check` says of scripts, with `--explain` and without.
 
-use crate::programs::{column, holds, is_told};
+use crate::programs::{column, holds, is_text};
 use ebpf_command::done::Done;
 use ebpf_command::format::Format;
 use ebpf_script::check;
-use ebpf_script::explained_check::explained_check;
+use ebpf_script::check_script::check_script;
 use std::alloc::Global;
 use std::process::Abort;
 use std::test::*;
@@ -16,14 +16,14 @@ program a 0 1 b7000000070000009500000000000000; | a accepted 2;
 program a 0 0 95; | a refused I1 0;
 program b 0 0 9500000000000000;program a 0 0 b7000000070000009500000000000000; | b refused V1 0;a accepted 2;
 program f 0 0 b700000007000000;run f -; | f refused F4 0;
-# nothing is told of what is to be run, nor of what is passed over
+# nothing is said of what is to be run, nor of what is skipped
 program a 2 1 b7000000070000009500000000000000;run a 00fF;arena 16;reap;run a 0908;reap; | a accepted 2;
 ;# run a -;program a 0 1 b7000000070000009500000000000000;\t \r;  run a -;  # exec; | a accepted 2;
 arena 0256;program a 0 0 95; | a refused I1 0;
 # without a newline at the end
 program a 0 1 b7000000070000009500000000000000;run a - | a accepted 2;
 program a 0 1 b7000000070000009500000000000000;run a | fault S3 line 2;
-# a fault is told alone, that of the lowest line, whatever code a later line has, and there the lowest code
+# only one fault is reported: that of the lowest line, whatever code a later line has, and in it the lowest code
 program a 0 1 95;run b - | fault S7 line 2;
 \x01 reap 1; | fault S2 line 1;
 reap 1;#\x7f; | fault S3 line 1;
@@ -34,7 +34,7 @@ run a -;program a! 0 0 -; | fault S7 line 1;
 arena 16;arena 16;run a -; | fault S8 line 2;
 program a 1 0 95;run a 0000;arena 1;arena 1; | fault S9 line 2;
 program b 0 0 9500000000000000;run b 00;reap; | fault S9 line 2;
-# of one line with three faults the lowest code is told; and one fault alone
+# of one line with three faults the lowest code is reported; and one fault alone
 program ! 9999 0 9; | fault S4 line 1;
 program a 0 0 9; | fault S5 line 1;
 program a 0 0 -; | a refused I1 0;
@@ -54,7 +54,7 @@ arena 1 1 | fault S3 line 1;
 run a - - | fault S3 line 1;
 program a 0 0 | fault S3 line 1;
 ARENA 1 | fault S3 line 1;
-# an arena has 1 to 256 pages, and stands once
+# an arena has 1 to 256 pages, and is set once
 arena 0 | fault S4 line 1;
 arena 257 | fault S4 line 1;
 arena x | fault S4 line 1;
@@ -92,14 +92,14 @@ fn is_checked(rt: &impl Abort, alloc: Global, row: &str, explains: bool) {
     let mut reader = script.as_bytes();
     let mut written = Vec::new(alloc);
     let done = if explains {
-        explained_check(alloc, &mut reader, &mut written, Format::Text)
+        check_script(alloc, &mut reader, &mut written, Format::Text, true)
     } else {
         check(alloc, &mut reader, &mut written)
     };
-    let done = done.expect(rt, "it is told");
-    let told = str::from_utf8(&written).expect(rt, "it is a text");
-    is_told(rt, row, told, expected.as_str());
-    let is_refused = told.contains(" refused ") || told.starts_with("fault ");
+    let done = done.expect(rt, "it is done");
+    let text = str::from_utf8(&written).expect(rt, "it is a text");
+    is_text(rt, row, text, expected.as_str());
+    let is_refused = text.contains(" refused ") || text.starts_with("fault ");
     holds(rt, row, matches!(done, Done::Refused) == is_refused);
 }
 

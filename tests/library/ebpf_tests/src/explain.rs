@@ -2,7 +2,7 @@
 
 mod sentences;
 
-use crate::programs::is_told;
+use crate::programs::is_text;
 use ebpf_explain::known::write_known;
 use ebpf_insn::insn::Size;
 use ebpf_insn::register::Reg;
@@ -23,7 +23,7 @@ fn first(rt: &impl Abort, alloc: Global) -> State {
 fn is_known(rt: &impl Abort, alloc: Global, what: &str, state: &State, expected: &str) {
     let mut text = String::new(alloc);
     write_known(&mut text, state, &kinds()).expect(rt, "out of memory");
-    is_told(rt, what, text.as_str(), expected);
+    is_text(rt, what, text.as_str(), expected);
 }
 
 // Says that a value is stored.
@@ -63,7 +63,7 @@ fn each_sort_of_value_has_its_words(rt: HostRuntime) {
 }
 
 #[test]
-fn words_of_the_stack_are_told_from_the_lowest(rt: HostRuntime) {
+fn words_of_the_stack_are_listed_from_the_lowest(rt: HostRuntime) {
     let mut state = first(&rt, rt.alloc());
     put(&rt, &mut state, Size::D, -8, number(5));
     put(&rt, &mut state, Size::W, -16, number(5));

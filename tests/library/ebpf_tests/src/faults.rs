@@ -1,6 +1,6 @@
-//! The words of the faults that stand in no other module.
+//! The words of the faults that are in no other module.
 
-use crate::programs::is_told;
+use crate::programs::is_text;
 use ebpf_command::done::EngineFault;
 use ebpf_flow::fault::{FlowCode, FlowFault};
 use ebpf_machine::run::StartFault;
@@ -25,11 +25,11 @@ no memory
 
 // The faults of the crates below the commands, and those of the commands, in words.
 fn faults(alloc: Global) -> Result<String, AllocError> {
-    let mut told = String::new(alloc);
+    let mut text = String::new(alloc);
     let slot = 3;
     let code = FlowCode::JumpIntoWide;
     write!(
-        told,
+        text,
         "{}\n{}\n",
         FlowFault::Bad { slot, code },
         FlowFault::NoMemory
@@ -37,25 +37,25 @@ fn faults(alloc: Global) -> Result<String, AllocError> {
     let slot = 4095;
     let code = VerifyCode::PathsDiffer;
     write!(
-        told,
+        text,
         "{}\n{}\n",
         VerifyFault::Refused { slot, code },
         VerifyFault::NoMemory
     )?;
-    write!(told, "{}\n{}\n", JoinFault::HeldDiffer, JoinFault::NoMemory)?;
+    write!(text, "{}\n{}\n", JoinFault::HeldDiffer, JoinFault::NoMemory)?;
     write!(
-        told,
+        text,
         "{}\n{}\n",
         StartFault::ContextLength,
         StartFault::NoMemory
     )?;
-    write!(told, "{}\n{}\n", EngineFault::Input, EngineFault::Output)?;
-    write!(told, "{}\n", EngineFault::NoMemory)?;
-    Ok(told)
+    write!(text, "{}\n{}\n", EngineFault::Input, EngineFault::Output)?;
+    write!(text, "{}\n", EngineFault::NoMemory)?;
+    Ok(text)
 }
 
 #[test]
-fn faults_are_told_in_words(rt: HostRuntime) {
-    let told = faults(rt.alloc()).expect(&rt, "out of memory");
-    is_told(&rt, "the words of faults", told.as_str(), WORDS);
+fn faults_are_written_in_words(rt: HostRuntime) {
+    let text = faults(rt.alloc()).expect(&rt, "out of memory");
+    is_text(&rt, "the words of faults", text.as_str(), WORDS);
 }

@@ -1,6 +1,6 @@
 //! Programs of a few slots, and where their instructions lead.
 
-use crate::programs::{column, is_told, program_of};
+use crate::programs::{column, is_text, program_of};
 use ebpf_flow::check::check;
 use ebpf_flow::edges::{displacement_of, falls};
 use std::alloc::Global;
@@ -17,8 +17,8 @@ fn has_its_fault(rt: &impl Abort, alloc: Global, row: &str) {
     let (digits, expected) = column(rt, columns);
     let program = program_of(rt, alloc, digits);
     let fault = check(alloc, program).err().expect(rt, "it is taken");
-    let told = format!(in alloc; "{fault}").expect(rt, "out of memory");
-    is_told(rt, row, told.as_str(), expected);
+    let text = format!(in alloc; "{fault}").expect(rt, "out of memory");
+    is_text(rt, row, text.as_str(), expected);
 }
 
 #[test]

@@ -1,9 +1,8 @@
-//! What `one` and `replay` tell of programs that call helpers.
+//! What `one` and `replay` say of programs that call helpers.
 
 use crate::events::is_replayed;
-use crate::programs::{column, holds, is_told};
+use crate::programs::{asked, column, holds, is_text};
 use ebpf_command::done::Done;
-use ebpf_command::format::Format;
 use ebpf_one::form::Form;
 use ebpf_one::one::one;
 use std::alloc::Global;
@@ -29,7 +28,7 @@ const PROGRAMS: &str = "\
 --held 1 | b7010000000000008500000001000000150004000000000079060000000000001506020000000000bf0100000000000085000000020000009500000000000000 | refused V19 7;
 # it is freed twice
 --held 1 | b701000000000000850000000100000015000700000000007a000000050000007906000000000000bf010000000000008500000002000000bf010000000000008500000002000000bf600000000000009500000000000000 | refused V15 8;
-# its last 8 bytes are written, or a byte behind them
+# its last 8 bytes are written, or a byte after them
 --held 1 | b701000000000000850000000100000015000500000000007a000800050000007906000000000000bf010000000000008500000002000000bf600000000000009500000000000000 | accepted 9;exit 0 executed 9 peak 1;
 --held 1 | b701000000000000850000000100000015000500000000007a000900050000007906000000000000bf010000000000008500000002000000bf600000000000009500000000000000 | refused V10 3;
 # another register has it when it is freed, and is unset from then on
@@ -37,7 +36,7 @@ const PROGRAMS: &str = "\
 # it is put on the shelf of its kind, or of another
 --held 1 | b701000000000000850000000100000015000800000000007a00000005000000bf02000000000000b70100000000000085000000040000001500020000000000bf010000000000008500000002000000b7000000010000009500000000000000 | accepted 12;exit 1 executed 10 peak 1;
 --held 1 | b701000000000000850000000100000015000800000000007a00000005000000bf02000000000000b70100000100000085000000040000001500020000000000bf010000000000008500000002000000b7000000010000009500000000000000 | refused V15 6;
-# nothing stands on the shelf; none is declared
+# nothing is on the shelf; none is declared
 --held 1 | b701000000000000b702000000000000850000000400000015000400000000007906000000000000bf010000000000008500000002000000bf600000000000009500000000000000 | accepted 9;exit 0 executed 5 peak 0;
 - | b701000000000000b702000000000000850000000400000015000400000000007906000000000000bf010000000000008500000002000000bf600000000000009500000000000000 | refused V16 2;";
 
@@ -56,21 +55,18 @@ fn is_run(rt: &impl Abort, alloc: Global, row: &str) {
         alloc,
         &mut reader,
         &mut written,
-        Format::Text,
-        Form::Hex,
-        "-",
-        held,
+        &asked(Form::Hex, "-", held),
         nulls,
     )
-    .expect(rt, "it is told");
-    let told = str::from_utf8(&written).expect(rt, "it is a text");
-    is_told(rt, row, told, expected.as_str());
-    let is_refused = told.starts_with("refused ");
+    .expect(rt, "it is done");
+    let text = str::from_utf8(&written).expect(rt, "it is a text");
+    is_text(rt, row, text, expected.as_str());
+    let is_refused = text.starts_with("refused ");
     holds(rt, row, matches!(done, Done::Refused) == is_refused);
 }
 
 #[test]
-fn calls_are_told(rt: HostRuntime) {
+fn calls_are_reported(rt: HostRuntime) {
     for row in PROGRAMS.lines() {
         if !row.starts_with('#') {
             is_run(&rt, rt.alloc(), row);
@@ -92,7 +88,7 @@ it comes before the call | start p -;exec 0 null; | stopped E5 1;
 it comes twice | start p -;exec 0;exec 0 null;exec 0 null; | stopped E5 3;";
 
 #[test]
-fn answers_to_a_call_are_told(rt: HostRuntime) {
+fn answers_to_a_call_are_reported(rt: HostRuntime) {
     for row in ANSWERS.lines() {
         is_replayed(&rt, rt.alloc(), ASKS, "p accepted 9\n", row);
     }

@@ -4,7 +4,7 @@ mod cases;
 mod opcodes;
 
 use crate::insn::cases::CASES;
-use crate::programs::{bytes_of, column, is_told};
+use crate::programs::{bytes_of, column, is_text};
 use ebpf_insn::decode::{bytes_encode_one_program, decode};
 use ebpf_insn::encode::encode;
 use ebpf_insn::fault::DecodeFault;
@@ -53,8 +53,8 @@ fn is_what_it_says(rt: &impl Abort, alloc: Global, row: &str) {
     let exits = exits.parse::<usize>().expect(rt, "the exits are no number");
     let more = bytes_of(rt, alloc, digits);
     let bytes = exits_and(alloc, exits, &more).expect(rt, "out of memory");
-    let told = outcome(rt, alloc, &bytes).expect(rt, "out of memory");
-    is_told(rt, row, told.as_str(), expected);
+    let text = outcome(rt, alloc, &bytes).expect(rt, "out of memory");
+    is_text(rt, row, text.as_str(), expected);
 }
 
 #[test]
@@ -66,7 +66,7 @@ fn bytes_are_what_the_table_says(rt: HostRuntime) {
     }
 }
 
-// A slot for each kind of instruction, and its line, which tells each field; the fifth is the second half of the fourth.
+// A slot for each kind of instruction, and its line, which says each field; the fifth is the second half of the fourth.
 const KINDS: &str = "\
 37010100feffffff | 0: sdiv64 r1, -2
 2c21000000000000 | 1: mul32 r1, r2
@@ -110,12 +110,12 @@ fn line_at(alloc: Global, program: &Program, slot: usize) -> Result<String, Allo
 }
 
 // The program of a table's slots, whose instructions are the table's.
-fn told_slots(rt: &impl Abort, alloc: Global, table: &str) -> Program {
+fn read_slots(rt: &impl Abort, alloc: Global, table: &str) -> Program {
     let bytes = bytes_of_slots(rt, alloc, table);
     let program = decode(alloc, &bytes).expect(rt, "these slots are no program");
     for (slot, row) in table.lines().enumerate() {
-        let told = line_at(alloc, &program, slot).expect(rt, "out of memory");
-        is_told(rt, row, told.as_str().trim_end(), column(rt, row).1);
+        let text = line_at(alloc, &program, slot).expect(rt, "out of memory");
+        is_text(rt, row, text.as_str().trim_end(), column(rt, row).1);
     }
     has_bytes(rt, alloc, &program, &bytes);
     program
@@ -123,9 +123,9 @@ fn told_slots(rt: &impl Abort, alloc: Global, table: &str) -> Program {
 
 #[test]
 fn each_kind_of_instruction_is_decoded_and_encoded(rt: HostRuntime) {
-    let kinds = told_slots(&rt, rt.alloc(), KINDS);
+    let kinds = read_slots(&rt, rt.alloc(), KINDS);
     assert!(rt; kinds.len() == 15 && kinds.slots() == 16 && kinds.at(16).is_none());
-    let wide_and_exit = told_slots(&rt, rt.alloc(), WIDE_AND_EXIT);
+    let wide_and_exit = read_slots(&rt, rt.alloc(), WIDE_AND_EXIT);
     assert!(rt; wide_and_exit.len() == 2 && wide_and_exit.slots() == 3);
     bytes_encode_one_program();
 }
@@ -134,6 +134,6 @@ fn each_kind_of_instruction_is_decoded_and_encoded(rt: HostRuntime) {
 fn numbers_and_words_of_the_parts(rt: HostRuntime) {
     assert!(rt; Insn::Exit.slots() == 1);
     assert!(rt; Reg::R10.number() == 10);
-    let told = format!(in rt.alloc(); "{}", DecodeFault::NoMemory).expect(&rt, "out of memory");
-    assert!(rt; told.as_str() == "out of memory");
+    let text = format!(in rt.alloc(); "{}", DecodeFault::NoMemory).expect(&rt, "out of memory");
+    assert!(rt; text.as_str() == "out of memory");
 }

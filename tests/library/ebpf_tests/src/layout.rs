@@ -1,6 +1,6 @@
 //! Programs laid out anew: which program comes of one, or why none does.
 
-use crate::programs::{column, holds, is_told, program_of};
+use crate::programs::{column, holds, is_text, program_of};
 use ebpf_flow::check::check;
 use ebpf_insn::encode::encode;
 use ebpf_insn::program::Program;
@@ -23,15 +23,15 @@ a wide one stays before what it falls to | 1500030000000000180000000100000000000
 b7000000020000000500020000000000180000000100000000000000020000009500000000000000
 a jump to itself is a loop | 0500ffff00000000 | slot 0 leads back to slot 0
 a branch back to what leads to it is a loop | b7000000000000001500feff000000009500000000000000 | slot 1 leads back to slot 0
-a loop is told before a fault | 15000500000000000500feff00000000 | slot 1 leads back to slot 0
+a loop is reported before a fault | 15000500000000000500feff00000000 | slot 1 leads back to slot 0
 past the last slot there is nothing | 0500050000000000 | slot 0 is refused with JumpOutside
 nor is there below slot 0 | 0500fdff00000000 | slot 0 is refused with JumpOutside
 a second half is no instruction | 050001000000000018000000010000000000000002000000 | slot 0 is refused with JumpIntoWide
 the last instruction doesn't fall | b700000001000000 | slot 0 is refused with FallsOffEnd
-the lowest slot is told | 150002000000000005000900000000009500000000000000b700000001000000 | slot 1 is refused with JumpOutside";
+the lowest slot is reported | 150002000000000005000900000000009500000000000000b700000001000000 | slot 1 is refused with JumpOutside";
 
 // The bytes of a program that the check of the flow takes.
-fn told_of(rt: &impl Abort, alloc: Global, laid: Program) -> String {
+fn text_of(rt: &impl Abort, alloc: Global, laid: Program) -> String {
     let bytes = encode(alloc, &laid).expect(rt, "out of memory");
     holds(rt, "it leads forward", check(alloc, laid).is_ok());
     hex::encode(alloc, &bytes).expect(rt, "out of memory")
@@ -42,11 +42,11 @@ fn is_laid_out(rt: &impl Abort, alloc: Global, row: &str) {
     let (_, columns) = column(rt, row);
     let (digits, expected) = column(rt, columns);
     let program = program_of(rt, alloc, digits);
-    let told = match lay_out(alloc, &program) {
-        Ok(laid) => told_of(rt, alloc, laid),
+    let text = match lay_out(alloc, &program) {
+        Ok(laid) => text_of(rt, alloc, laid),
         Err(fault) => format!(in alloc; "{fault}").expect(rt, "out of memory"),
     };
-    is_told(rt, row, told.as_str(), expected);
+    is_text(rt, row, text.as_str(), expected);
 }
 
 #[test]

@@ -1,6 +1,6 @@
 //! Tests of the eBPF crates, a module for each.
 //!
-//! They stand above all of them and call only what a user of those crates can call, so that no crate is proved again with
+//! They come after all of them and call only what a user of those crates can call, so that no crate is proved again with
 //! tests of its own. Where there are many cases they are rows of one text, which one loop reads, so a case more costs
 //! nothing: a row with a name says what it shows, and a line that begins with `#` says it of the rows below. What the built
 //! program shows is tested by tests/commands instead. `surface` makes each public call of the crates up to ebpf_script once, so it is the
@@ -64,6 +64,8 @@ mod surface;
 #[cfg(test)]
 mod text;
 mod things;
+#[cfg(test)]
+mod unroll;
 #[cfg(test)]
 mod verify;
 #[cfg(test)]

@@ -2,12 +2,11 @@
 //! on an immediate, for all pairs of numbers at which something changes. The programs are written slot by slot, by the
 //! opcodes of RFC 9669.
 
-use crate::programs::holds;
+use crate::programs::{asked, holds};
 use crate::range::{
     CONDITIONS, ENDS, OPERATIONS, condition, extended, is_so, kept, low_half, operation, orders,
     readings, result,
 };
-use ebpf_command::format::Format;
 use ebpf_insn::insn::{AluOp, Cond, Width};
 use ebpf_one::form::Form;
 use ebpf_one::one::one;
@@ -34,13 +33,13 @@ fn set(rt: &impl Abort, bytes: &mut Vec<u8>, register: u8, n: u64) {
 }
 
 // That a program is reported so.
-fn is_told_so(rt: &impl Abort, alloc: Global, program: Vec<u8>, told: &str) {
+fn is_written(rt: &impl Abort, alloc: Global, program: Vec<u8>, want: &str) {
     let text = hex::encode(alloc, program).expect(rt, "out of memory");
     let mut reader = text.as_bytes();
     let mut written = Vec::new(alloc);
-    let done = one(alloc, &mut reader, &mut written, Format::Text, Form::Hex, "-", 0, false);
+    let done = one(alloc, &mut reader, &mut written, &asked(Form::Hex, "-", 0), false);
     let is_done = done.is_ok();
-    holds(rt, told, is_done && written.as_slice() == told.as_bytes());
+    holds(rt, want, is_done && written.as_slice() == want.as_bytes());
 }
 
 // The number that the immediate of these low bits stands for.
@@ -72,12 +71,12 @@ fn makes(
     set(rt, &mut program, 1, b);
     put(rt, &mut program, opcode, registers, offset, imm);
     put(rt, &mut program, EXIT, 0, 0, 0);
-    let told = format!(in alloc; "accepted 4\nexit {n} executed 4 peak 0\n");
-    is_told_so(
+    let text = format!(in alloc; "accepted 4\nexit {n} executed 4 peak 0\n");
+    is_written(
         rt,
         alloc,
         program,
-        told.expect(rt, "out of memory").as_str(),
+        text.expect(rt, "out of memory").as_str(),
     );
 }
 
@@ -178,12 +177,12 @@ fn goes(
     put(rt, &mut program, opcode, registers, 1, imm);
     put(rt, &mut program, 0xb7, 0, 0, 0);
     put(rt, &mut program, EXIT, 0, 0, 0);
-    let told = if is_taken {
+    let text = if is_taken {
         "accepted 6\nexit 1 executed 5 peak 0\n"
     } else {
         "accepted 6\nexit 0 executed 6 peak 0\n"
     };
-    is_told_so(rt, alloc, program, told);
+    is_written(rt, alloc, program, text);
 }
 
 // The opcode of a branch on an immediate.
@@ -241,7 +240,7 @@ fn jumps(rt: &impl Abort, alloc: Global, (opcode, offset, imm): (u8, u8, u32)) {
     put(rt, &mut program, opcode, 0, offset, imm);
     put(rt, &mut program, 0xb7, 0, 0, 0);
     put(rt, &mut program, EXIT, 0, 0, 0);
-    is_told_so(rt, alloc, program, "accepted 5\nexit 7 executed 4 peak 0\n");
+    is_written(rt, alloc, program, "accepted 5\nexit 7 executed 4 peak 0\n");
 }
 
 #[test]

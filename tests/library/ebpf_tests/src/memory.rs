@@ -1,7 +1,6 @@
-//! What `one` tells of programs that load and store.
+//! What `one` says of programs that load and store.
 
-use crate::programs::{column, is_told};
-use ebpf_command::format::Format;
+use crate::programs::{asked, column, is_text};
 use ebpf_one::form::Form;
 use ebpf_one::one::one;
 use std::alloc::Global;
@@ -26,7 +25,7 @@ ff | 91100000000000009500000000000000 | accepted 2;exit 18446744073709551615 exe
 - | 720afffd0700000071a000fe000000009500000000000000 | refused V6 0;
 - | 79a0f8ff000000009500000000000000 | refused V7 0;";
 
-fn is_told_so(rt: &impl Abort, alloc: Global, row: &str) {
+fn is_written(rt: &impl Abort, alloc: Global, row: &str) {
     let (context, rest) = column(rt, row);
     let (input, expected) = column(rt, rest);
     let expected = expected
@@ -38,20 +37,17 @@ fn is_told_so(rt: &impl Abort, alloc: Global, row: &str) {
         alloc,
         &mut reader,
         &mut written,
-        Format::Text,
-        Form::Hex,
-        context,
-        0,
+        &asked(Form::Hex, context, 0),
         false,
     )
-    .expect(rt, "it is told");
-    let told = str::from_utf8(&written).expect(rt, "it is a text");
-    is_told(rt, row, told, expected.as_str());
+    .expect(rt, "it is done");
+    let text = str::from_utf8(&written).expect(rt, "it is a text");
+    is_text(rt, row, text, expected.as_str());
 }
 
 #[test]
-fn loads_and_stores_are_told(rt: HostRuntime) {
+fn loads_and_stores_are_reported(rt: HostRuntime) {
     for row in ROWS.lines() {
-        is_told_so(&rt, rt.alloc(), row);
+        is_written(&rt, rt.alloc(), row);
     }
 }

@@ -1,11 +1,14 @@
 //! What the commands write of an object file, of a function of it, and of a file that has none.
 
 use crate::object_file::object;
-use crate::programs::{column, holds, is_told};
+use crate::programs::{column, holds, is_text};
 use ebpf_command::done::Done;
 use ebpf_command::format::Format;
-use ebpf_one::explain_object::explain_object;
-use ebpf_one::object_commands::{lay_out_object, list_object, one_object};
+use ebpf_one::ask::{Ask, Input};
+use ebpf_one::explain::explain;
+use ebpf_one::lay_out::lay_out;
+use ebpf_one::list::list;
+use ebpf_one::one::one;
 use std::alloc::Global;
 use std::process::Abort;
 use std::test::*;
@@ -30,13 +33,20 @@ fn written(rt: &impl Abort, alloc: Global, command: &str, name: &str, function: 
     let function = if function == "-" { "" } else { function };
     let mut reader = file.as_slice();
     let mut writer = Vec::new(alloc);
-    let done = match command {
-        "one" => one_object(alloc, &mut reader, &mut writer, Format::Text, function, ZEROS, 0, false),
-        "list" => list_object(alloc, &mut reader, &mut writer, Format::Text, function),
-        "explain" => explain_object(alloc, &mut reader, &mut writer, Format::Text, function, ZEROS, 0, false),
-        _ => lay_out_object(alloc, &mut reader, &mut writer, Format::Text, function),
+    let input = Input::Object(function);
+    let ask = Ask {
+        input,
+        format: Format::Text,
+        context: ZEROS,
+        held: 0,
     };
-    (writer, done.expect(rt, "it is told"))
+    let done = match command {
+        "one" => one(alloc, &mut reader, &mut writer, &ask, false),
+        "list" => list(alloc, &mut reader, &mut writer, Format::Text, &input, false),
+        "explain" => explain(alloc, &mut reader, &mut writer, &ask, false),
+        _ => lay_out(alloc, &mut reader, &mut writer, Format::Text, &input),
+    };
+    (writer, done.expect(rt, "it is done"))
 }
 
 fn is_written(rt: &impl Abort, alloc: Global, row: &str) {
@@ -46,7 +56,7 @@ fn is_written(rt: &impl Abort, alloc: Global, row: &str) {
     let (bytes, done) = written(rt, alloc, command, name, function);
     let text = String::from_utf8_lossy(alloc, &bytes).expect(rt, "out of memory");
     let first = text.lines().next().expect(rt, "nothing is written");
-    is_told(rt, row, first, expected);
+    is_text(rt, row, first, expected);
     holds(rt, row, matches!(done, Done::Refused) == expected.starts_with("fault"));
 }
 

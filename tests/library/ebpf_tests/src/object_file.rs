@@ -4,7 +4,7 @@
 mod objects;
 
 use crate::object_file::objects::{CALL, SECTION, TABLE, TWO};
-use crate::programs::{bytes_of, column, holds, is_told};
+use crate::programs::{bytes_of, column, holds, is_text};
 use ebpf_object_file::function::{function_named, only_function};
 use ebpf_object_file::functions::functions_of;
 use ebpf_object_file::object_fault::ObjectFault;
@@ -133,8 +133,8 @@ fn is_found(rt: &impl Abort, alloc: Global, row: &str) {
     let section = place_of.section;
     let from = place_of.from;
     let size = place_of.size;
-    let told = format!(in alloc; "{section} {from} {size}").expect(rt, "out of memory");
-    is_told(rt, row, told.as_str(), place);
+    let got = format!(in alloc; "{section} {from} {size}").expect(rt, "out of memory");
+    is_text(rt, row, got.as_str(), place);
     let code = bytes_of(rt, alloc, digits);
     holds(rt, row, function.code == code.as_slice());
 }
@@ -156,8 +156,8 @@ fn is_refused(rt: &impl Abort, alloc: Global, row: &str) {
         function_named(&file, wanted.as_bytes()).err()
     };
     let fault = refused.expect(rt, "it is taken");
-    let told = sentence(rt, alloc, fault);
-    is_told(rt, row, told.as_str(), expected);
+    let got = sentence(rt, alloc, fault);
+    is_text(rt, row, got.as_str(), expected);
 }
 
 #[test]
@@ -181,7 +181,7 @@ fn has_its_fault(rt: &impl Abort, alloc: Global, row: &str) {
             sentence(rt, alloc, fault)
         }
     };
-    is_told(rt, row, refused.as_str(), expected);
+    is_text(rt, row, refused.as_str(), expected);
 }
 
 #[test]
@@ -208,8 +208,8 @@ fn a_name_has_at_most_255_bytes(rt: HostRuntime) {
     let short = function_named(&file, &name[..255]).err().expect(&rt, "it is taken");
     holds(&rt, "255 bytes", matches!(short, ObjectFault::NoFunction(_)));
     let long = function_named(&file, &name).err().expect(&rt, "it is taken");
-    let told = sentence(&rt, rt.alloc(), long);
-    is_told(&rt, "256 bytes", told.as_str(), "the function's name has more than 255 bytes");
+    let got = sentence(&rt, rt.alloc(), long);
+    is_text(&rt, "256 bytes", got.as_str(), "the function's name has more than 255 bytes");
 }
 
 #[test]
@@ -243,8 +243,8 @@ fn has_its_line(rt: &impl Abort, alloc: Global, row: &str) {
     let text = String::from_utf8_lossy(alloc, source.text).expect(rt, "out of memory");
     let number = source.line;
     let at = source.column;
-    let told = format!(in alloc; "{path}:{number}:{at}: {text}").expect(rt, "out of memory");
-    is_told(rt, row, told.as_str(), expected);
+    let got = format!(in alloc; "{path}:{number}:{at}: {text}").expect(rt, "out of memory");
+    is_text(rt, row, got.as_str(), expected);
 }
 
 #[test]
@@ -279,8 +279,8 @@ fn has_no_lines(rt: &impl Abort, alloc: Global, row: &str) {
     let section = section.parse::<u16>().expect(rt, "no section");
     let file = damaged(rt, alloc, changes);
     let fault = lines_of(&file, section).err().expect(rt, "they are read");
-    let told = format!(in alloc; "{fault}").expect(rt, "out of memory");
-    is_told(rt, row, told.as_str(), expected);
+    let got = format!(in alloc; "{fault}").expect(rt, "out of memory");
+    is_text(rt, row, got.as_str(), expected);
 }
 
 #[test]

@@ -1,8 +1,8 @@
-//! Worlds whose runs share slots: what `replay` tells of them, and what is read of the slots after each event.
+//! Worlds whose runs share slots: what `replay` says of them, and what is read of the slots after each event.
 
 use crate::accepted::read;
 use crate::events::is_replayed;
-use crate::programs::is_told;
+use crate::programs::is_text;
 use ebpf_core::event::Event;
 use ebpf_core::world::World;
 use std::alloc::AllocError;
@@ -18,7 +18,7 @@ program q 0 1 b7010000010000008500000001000000150004000000000079060000000000\
 ";
 
 // What happens, the events after `PROGRAMS`, a `;` for each end of a line, and what is reported of them after the verdicts.
-const TOLD: &str = "\
+const ROWS: &str = "\
 a slot that is held is granted | grow 1 0;start p -;start q -;exec 0;exec 1;exec 0 0;exec 1 0; | stopped E3 6;
 a slot that was freed is granted, with its image | grow 1 0;start p -;start q -;exec 0;exec 1;exec 0 0;exec 0;exec 0;exec 0;exec 0;exec 0;exec 1 0;exec 1;exec 1;exec 1;exec 1;exec 1;exec 1;exec 0;exec 0; | run 0 exit 5 executed 9;run 1 exit 18446744073709551615 executed 8;kind 0 slots 0 held 0;kind 1 slots 1 held 0;kind 2 slots 0 held 0;
 a slot that is held is reaped | grow 1 0;start p -;start q -;exec 0;exec 1;exec 0 0;exec 0;exec 0;exec 0;exec 0;exec 0;exec 1 0;reap 1 0; | stopped E8 12;
@@ -30,8 +30,8 @@ there is no answer | grow 0 0;start p -;exec 0;exec 0; | stopped E6 3;
 a run holds one of two slots | grow 1 7;grow 1 3;start p -;exec 0;exec 0 7; | run 0 going 2 executed 2;kind 0 slots 0 held 0;kind 1 slots 2 held 1;kind 2 slots 0 held 0;";
 
 #[test]
-fn runs_that_share_slots_are_told(rt: HostRuntime) {
-    for row in TOLD.lines() {
+fn runs_that_share_slots_are_reported(rt: HostRuntime) {
+    for row in ROWS.lines() {
         is_replayed(
             &rt,
             rt.alloc(),
@@ -121,20 +121,20 @@ fn first_byte(world: &World<'_>, slot: u32) -> Option<(usize, u8)> {
 }
 
 // What is read of the slots of a world, a line more.
-fn tell_slots(told: &mut String, world: &World<'_>) -> Result<(), AllocError> {
+fn write_slots(text: &mut String, world: &World<'_>) -> Result<(), AllocError> {
     let (cells, records) = (world.ledger(0), world.ledger(1));
     let (seven, nine) = (world.owner(7), world.owner(9));
     let (first, shelf) = (first_byte(world, 7), world.shelf(1));
     write!(
-        told,
+        text,
         "{cells:?} {records:?} {seven:?} {nine:?} {first:?} {shelf:?}\n"
     )
 }
 
 // One event more, and then what is read.
-fn apply_and_tell(rt: &impl Abort, world: &mut World<'_>, event: Event, told: &mut String) {
+fn apply_and_write(rt: &impl Abort, world: &mut World<'_>, event: Event, text: &mut String) {
     world.apply(event).expect(rt, "each event is legal");
-    tell_slots(told, world).expect(rt, "out of memory");
+    write_slots(text, world).expect(rt, "out of memory");
 }
 
 #[test]
@@ -142,9 +142,9 @@ fn slots_are_read_after_each_event(rt: HostRuntime) {
     let script = format!(in rt.alloc(); "{PROGRAMS}{EVENTS}").expect(&rt, "out of memory");
     let (programs, events) = read(&rt, rt.alloc(), script.as_str());
     let mut world = World::new(rt.alloc(), &programs).expect(&rt, "out of memory");
-    let mut told = String::new(rt.alloc());
+    let mut text = String::new(rt.alloc());
     for event in events {
-        apply_and_tell(&rt, &mut world, event, &mut told);
+        apply_and_write(&rt, &mut world, event, &mut text);
     }
-    is_told(&rt, "the slots", told.as_str(), READ);
+    is_text(&rt, "the slots", text.as_str(), READ);
 }

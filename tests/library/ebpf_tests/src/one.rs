@@ -1,9 +1,10 @@
-//! What `one` and `explain` tell where a caller asks for more held objects than the command line lets through, and what the
-//! commands over one program tell of raw bytes.
+//! What `one` and `explain` say where a caller asks for more held objects than the command line lets through, and what the
+//! commands over one program say of raw bytes.
 
-use crate::programs::holds;
+use crate::programs::{asked, holds};
 use ebpf_command::done::Done;
 use ebpf_command::format::Format;
+use ebpf_one::ask::Input;
 use ebpf_one::explain::explain;
 use ebpf_one::form::Form;
 use ebpf_one::lay_out::lay_out;
@@ -53,57 +54,52 @@ static EXPLAINED: [(&str, &str, u8, &str); 3] = [
 ];
 
 // Tries a row, with nulls or without.
-fn is_told_so(rt: &impl Abort, alloc: Global, row: (&str, &str, u8, &str), nulls: bool) {
-    let (input, context, held, told) = row;
+fn is_written(rt: &impl Abort, alloc: Global, row: (&str, &str, u8, &str), nulls: bool) {
+    let (input, context, held, text) = row;
     let mut reader = input.as_bytes();
     let mut written = Vec::new(alloc);
     let done = one(
         alloc,
         &mut reader,
         &mut written,
-        Format::Text,
-        Form::Hex,
-        context,
-        held,
+        &asked(Form::Hex, context, held),
         nulls,
     )
-    .expect(rt, "it is told");
+    .expect(rt, "it is done");
     let is_clean = matches!(done, Done::Clean);
     holds(
         rt,
-        told,
-        is_clean == (held == 64) && written.as_slice() == told.as_bytes(),
+        text,
+        is_clean == (held == 64) && written.as_slice() == text.as_bytes(),
     );
 }
 
 #[test]
 fn more_than_64_held_is_a_fault(rt: HostRuntime) {
     for row in HELD.iter().copied() {
-        is_told_so(&rt, rt.alloc(), row, false);
-        is_told_so(&rt, rt.alloc(), row, true);
+        is_written(&rt, rt.alloc(), row, false);
+        is_written(&rt, rt.alloc(), row, true);
     }
 }
 
 // Tries a row of `explain`.
 fn is_explained_so(rt: &impl Abort, alloc: Global, row: (&str, &str, u8, &str)) {
-    let (input, context, held, told) = row;
+    let (input, context, held, text) = row;
     let mut reader = input.as_bytes();
     let mut written = Vec::new(alloc);
     let done = explain(
         alloc,
         &mut reader,
         &mut written,
-        Format::Text,
-        Form::Hex,
-        context,
-        held,
+        &asked(Form::Hex, context, held),
+        false,
     )
-    .expect(rt, "it is told");
+    .expect(rt, "it is done");
     let is_refused = matches!(done, Done::Refused);
     holds(
         rt,
-        told,
-        is_refused && written.as_slice() == told.as_bytes(),
+        text,
+        is_refused && written.as_slice() == text.as_bytes(),
     );
 }
 
@@ -117,7 +113,7 @@ fn more_than_64_held_is_explained(rt: HostRuntime) {
 // A program that returns 7, as it is.
 const SEVEN: &[u8] = b"\xb7\0\0\0\x07\0\0\0\x95\0\0\0\0\0\0\0";
 
-// Each command, and what it tells of `SEVEN`.
+// Each command, and what it says of `SEVEN`.
 static OF_RAW: [(&str, &str); 4] = [
     ("one", "accepted 2\nexit 7 executed 2 peak 0\n"),
     ("list", "0: mov64 r0, 7\n1: exit\n"),
@@ -129,35 +125,35 @@ static OF_RAW: [(&str, &str); 4] = [
 ];
 
 // Tries a row of it.
-fn is_told_of_raw(rt: &impl Abort, alloc: Global, command: &str, told: &str) {
+fn is_text_of_raw(rt: &impl Abort, alloc: Global, command: &str, text: &str) {
     let mut reader = SEVEN;
     let mut written = Vec::new(alloc);
     let done = match command {
-        "one" => one(alloc, &mut reader, &mut written, Format::Text, Form::Raw, "-", 0, false),
-        "list" => list(alloc, &mut reader, &mut written, Format::Text, Form::Raw),
-        "explain" => explain(alloc, &mut reader, &mut written, Format::Text, Form::Raw, "-", 0),
-        _ => lay_out(alloc, &mut reader, &mut written, Format::Text, Form::Raw),
+        "one" => one(alloc, &mut reader, &mut written, &asked(Form::Raw, "-", 0), false),
+        "list" => list(alloc, &mut reader, &mut written, Format::Text, &Input::Program(Form::Raw), false),
+        "explain" => explain(alloc, &mut reader, &mut written, &asked(Form::Raw, "-", 0), false),
+        _ => lay_out(alloc, &mut reader, &mut written, Format::Text, &Input::Program(Form::Raw)),
     };
     let is_clean = matches!(done, Ok(Done::Clean));
     holds(
         rt,
         command,
-        is_clean && written.as_slice() == told.as_bytes(),
+        is_clean && written.as_slice() == text.as_bytes(),
     );
 }
 
 #[test]
 fn raw_bytes_are_read_as_they_are(rt: HostRuntime) {
-    for (command, told) in OF_RAW.iter().copied() {
-        is_told_of_raw(&rt, rt.alloc(), command, told);
+    for (command, text) in OF_RAW.iter().copied() {
+        is_text_of_raw(&rt, rt.alloc(), command, text);
     }
 }
 
 // Asks for a cell, writes to it, reads it and frees it.
 const ASKS: &str = "b701000000000000850000000100000015000500000000007a000000050000007906000000000000bf010000000000008500000002000000bf600000000000009500000000000000";
 
-// What is told of so many of its first bytes.
-fn told_of_first(bytes: usize) -> &'static str {
+// What is reported of that many of its first bytes.
+fn text_of_first(bytes: usize) -> &'static str {
     match bytes {
         // its second slot, the call, is not there, or what follows it, or what the branch jumps to
         8 => "refused F4 0\n",
@@ -168,25 +164,22 @@ fn told_of_first(bytes: usize) -> &'static str {
     }
 }
 
-// Tries so many of its first bytes.
-fn is_told_of_first(rt: &impl Abort, alloc: Global, bytes: usize) {
+// Tries that many of its first bytes.
+fn is_text_of_first(rt: &impl Abort, alloc: Global, bytes: usize) {
     let mut reader = &ASKS.as_bytes()[..2 * bytes];
     let mut written = Vec::new(alloc);
     let done = one(
         alloc,
         &mut reader,
         &mut written,
-        Format::Text,
-        Form::Hex,
-        "-",
-        1,
+        &asked(Form::Hex, "-", 1),
         false,
     )
-    .expect(rt, "it is told");
-    let told = told_of_first(bytes);
+    .expect(rt, "it is done");
+    let text = text_of_first(bytes);
     let is_clean = matches!(done, Done::Clean);
     assert!(rt;
-        is_clean == (bytes == 72) && written.as_slice() == told.as_bytes(),
+        is_clean == (bytes == 72) && written.as_slice() == text.as_bytes(),
         "{bytes} bytes"
     );
 }
@@ -194,6 +187,6 @@ fn is_told_of_first(rt: &impl Abort, alloc: Global, bytes: usize) {
 #[test]
 fn a_program_that_is_cut_off_is_refused(rt: HostRuntime) {
     for bytes in 0..=72 {
-        is_told_of_first(&rt, rt.alloc(), bytes);
+        is_text_of_first(&rt, rt.alloc(), bytes);
     }
 }

@@ -100,8 +100,8 @@ fn the_lines_of_a_job_are_made(rt: HostRuntime) {
     let mut text = String::new(rt.alloc());
     let mut line = TextLine::end();
     let is_written = write_output(&mut text, &mut line, 3, &[8, 9]).is_ok();
-    let is_told = text.as_str() == "emit 3 8\nemit 3 9\n";
-    holds(&rt, "the output", is_written && is_told);
+    let is_text = text.as_str() == "emit 3 8\nemit 3 9\n";
+    holds(&rt, "the output", is_written && is_text);
 }
 
 // A script of jobs of a program that emits its context of a byte and returns it, and what `run` writes of it.
@@ -135,13 +135,13 @@ fn comes<R: Abort + Threads + Wait + Sync>(
     let mut reader = script.as_bytes();
     let mut writer = narrow(alloc, room);
     let done = run(rt, alloc, &mut reader, &mut writer, 2, 0);
-    let is_told = match done {
+    let is_text = match done {
         Ok(Done::Clean) => room >= text.len(),
         Err(EngineFault::Output) => room < text.len(),
         _ => false,
     };
     let came = &text.as_bytes()[..text.len().min(room)];
-    assert!(rt; is_told && writer.got.as_slice() == came, "room for {room}");
+    assert!(rt; is_text && writer.got.as_slice() == came, "room for {room}");
 }
 
 #[test]

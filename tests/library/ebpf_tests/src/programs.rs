@@ -1,9 +1,12 @@
-//! Rows of a table, and the programs that stand in them as hex.
+//! Rows of a table, and the programs that are in them as hex.
 //!
 //! What can't be read ends the test: there is nothing to clean up, and no path back to be translated and proved.
 
+use ebpf_command::format::Format;
 use ebpf_insn::decode::decode;
 use ebpf_insn::program::Program;
+use ebpf_one::ask::{Ask, Input};
+use ebpf_one::form::Form;
 use std::alloc::Global;
 use std::process::Abort;
 
@@ -29,6 +32,16 @@ pub(crate) fn holds(rt: &impl Abort, what: &str, fact: bool) {
 }
 
 // That a row is reported as it says.
-pub(crate) fn is_told(rt: &impl Abort, row: &str, told: &str, expected: &str) {
-    assert!(rt; told == expected, "{row}: {told}");
+pub(crate) fn is_text(rt: &impl Abort, row: &str, text: &str, expected: &str) {
+    assert!(rt; text == expected, "{row}: {text}");
+}
+
+// What is asked of a command of a program in a form, to be answered as text.
+pub(crate) fn asked(form: Form, context: &str, held: u8) -> Ask<'_> {
+    Ask {
+        input: Input::Program(form),
+        format: Format::Text,
+        context,
+        held,
+    }
 }

@@ -77,16 +77,16 @@ fn number(rt: &impl Abort, digits: &str) -> u64 {
     digits.parse::<u64>().expect(rt, "no number")
 }
 
-// The range whose ends stand in a row.
+// The range whose ends are in a row.
 fn range_of(rt: &impl Abort, ends: &str) -> Range {
     let (lo, hi) = ends.split_once(' ').expect(rt, "an end is missing");
     Range::new(number(rt, lo), number(rt, hi)).expect(rt, "no range")
 }
 
-// That a range has the ends that stand in a row.
-fn is_range(rt: &impl Abort, row: &str, told: Range, ends: &str) {
+// That a range has the ends that are in a row.
+fn is_range(rt: &impl Abort, row: &str, got: Range, ends: &str) {
     let expected = range_of(rt, ends);
-    holds(rt, row, told.lo == expected.lo && told.hi == expected.hi);
+    holds(rt, row, got.lo == expected.lo && got.hi == expected.hi);
 }
 
 // Tries a row of the results.
@@ -97,8 +97,8 @@ fn has_its_result(rt: &impl Abort, row: &str) {
     let (a, columns) = column(rt, columns);
     let (b, expected) = column(rt, columns);
     let op = operation(rt, word);
-    let told = alu(op, width(bits), range_of(rt, a), range_of(rt, b));
-    is_range(rt, row, told, expected);
+    let got = alu(op, width(bits), range_of(rt, a), range_of(rt, b));
+    is_range(rt, row, got, expected);
 }
 
 #[test]
@@ -118,14 +118,14 @@ fn has_its_ranges(rt: &impl Abort, row: &str) {
     let (b, columns) = column(rt, columns);
     let (left, right) = column(rt, columns);
     let cond = condition(rt, word);
-    let told = refine(
+    let got = refine(
         cond,
         width(bits),
         range_of(rt, a),
         range_of(rt, b),
         taken == "true",
     );
-    match told {
+    match got {
         Some((a, b)) => {
             is_range(rt, row, a, left);
             is_range(rt, row, b, right);
@@ -394,8 +394,8 @@ fn every_result_of_one_number_lies_in_its_range(rt: HostRuntime) {
 }
 
 // That a range has these ends.
-fn is(rt: &impl Abort, name: &str, told: Range, lo: u64, hi: u64) {
-    holds(rt, name, told.lo == lo && told.hi == hi);
+fn is(rt: &impl Abort, name: &str, got: Range, lo: u64, hi: u64) {
+    holds(rt, name, got.lo == lo && got.hi == hi);
 }
 
 fn range(lo: u64, hi: u64) -> Range {

@@ -25,7 +25,7 @@ reap 0 3
 exec 0
 ";
 
-fn tells(rt: &impl Print, call: &str) {
+fn warns(rt: &impl Print, call: &str) {
     let _ = println!(rt; "refused: {call}");
 }
 
@@ -34,7 +34,7 @@ fn read_again<R: Abort + Print>(rt: &R, alloc: Global) -> Script {
         Ok(script) => script,
         Err(stop) => {
             holds(rt, "want of memory", matches!(stop, ScriptStop::NoMemory));
-            tells(rt, "a script");
+            warns(rt, "a script");
             script_of(rt, alloc, Dialect::Events, SCRIPT)
         }
     }
@@ -45,7 +45,7 @@ fn judge_again<R: Abort + Print>(rt: &R, alloc: Global, script: &Script) -> Veri
         panic!(rt; "the script has no program");
     };
     let Some(verified) = accepted_once(rt, alloc, program) else {
-        tells(rt, "a verdict");
+        warns(rt, "a verdict");
         return accepted(rt, alloc, program);
     };
     verified
@@ -58,7 +58,7 @@ fn apply_again<R: Abort + Print>(rt: &R, world: &mut World<'_>, event: Event, sa
         return;
     };
     let is_starting = matches!(same, Event::Start { .. });
-    tells(rt, if is_starting { "a start" } else { "a slot" });
+    warns(rt, if is_starting { "a start" } else { "a slot" });
     holds(rt, "want of memory", matches!(fault, ApplyFault::NoMemory));
     holds(rt, "as many runs", world.runs() == runs);
     holds(rt, "as far", world.executed(0) == executed);

@@ -1,8 +1,8 @@
 //! Scripts with their programs, events and jobs, and the calls that commands share, with values from docs/SCRIPTS.md.
 
 use crate::accepted::script_of;
-use crate::events::tell_event;
-use crate::programs::{holds, is_told};
+use crate::events::write_event;
+use crate::programs::{holds, is_text};
 use ebpf_command::answer::{Answer, respond};
 use ebpf_command::codes::RefusalCode;
 use ebpf_command::done::{Done, FaultCode};
@@ -50,43 +50,43 @@ pages Some(16), passes 2
 ";
 
 // A program in words, a line more.
-fn tell_program(told: &mut String, name: &str, program: &ProgramText) -> Result<(), AllocError> {
+fn write_program(text: &mut String, name: &str, program: &ProgramText) -> Result<(), AllocError> {
     let bytes = program.bytes.as_slice();
     let (context, held) = (program.decl.context, program.decl.held);
-    write!(told, "{name} {context} {held} {bytes:?}\n")
+    write!(text, "{name} {context} {held} {bytes:?}\n")
 }
 
 // A job in words, a line more.
-fn tell_job(told: &mut String, job: JobRef) -> Result<(), AllocError> {
+fn write_job(text: &mut String, job: JobRef) -> Result<(), AllocError> {
     let (program, bytes) = (job.program, job.context);
-    write!(told, "run {program} {bytes:?}\n")
+    write!(text, "run {program} {bytes:?}\n")
 }
 
 // A script in words.
 fn script_words(rt: &impl Abort, alloc: Global, script: &Script) -> String {
-    let mut told = String::new(alloc);
+    let mut text = String::new(alloc);
     for (name, program) in script.programs.iter() {
-        tell_program(&mut told, name.as_str(), program).expect(rt, "out of memory");
+        write_program(&mut text, name.as_str(), program).expect(rt, "out of memory");
     }
     for event in script.events.iter() {
-        tell_event(&mut told, event).expect(rt, "out of memory");
+        write_event(&mut text, event).expect(rt, "out of memory");
     }
     for number in 0..script.jobs.len() {
-        tell_job(&mut told, script.jobs.job(number)).expect(rt, "out of memory");
+        write_job(&mut text, script.jobs.job(number)).expect(rt, "out of memory");
     }
     let (pages, passes) = (script.pages, script.passes);
-    write!(told, "pages {pages:?}, passes {passes}\n").expect(rt, "out of memory");
-    told
+    write!(text, "pages {pages:?}, passes {passes}\n").expect(rt, "out of memory");
+    text
 }
 
 #[test]
 fn a_script_has_its_programs_events_and_jobs(rt: HostRuntime) {
     let script = script_of(&rt, rt.alloc(), Dialect::Events, SCRIPT);
-    let told = script_words(&rt, rt.alloc(), &script);
-    is_told(&rt, "a script of events", told.as_str(), SAID);
+    let text = script_words(&rt, rt.alloc(), &script);
+    is_text(&rt, "a script of events", text.as_str(), SAID);
     let script = script_of(&rt, rt.alloc(), Dialect::Jobs, JOBS);
-    let told = script_words(&rt, rt.alloc(), &script);
-    is_told(&rt, "a script of jobs", told.as_str(), JOBS_SAID);
+    let text = script_words(&rt, rt.alloc(), &script);
+    is_text(&rt, "a script of jobs", text.as_str(), JOBS_SAID);
 }
 
 // A word, the bytes that it stands for as hex, and those that it stands for where a lone `-` is none.
@@ -102,13 +102,13 @@ fn is_read(rt: &impl Abort, alloc: Global, row: &str) {
     let (word, expected) = row.split_once(' ').expect(rt, "a row has three columns");
     let bytes = hex_bytes(alloc, word.as_bytes()).expect(rt, "out of memory");
     let dashed = hex_or_dash(alloc, word.as_bytes()).expect(rt, "out of memory");
-    let told = format!(in alloc; "{bytes:?} {dashed:?}").expect(rt, "out of memory");
-    is_told(rt, row, told.as_str(), expected);
+    let text = format!(in alloc; "{bytes:?} {dashed:?}").expect(rt, "out of memory");
+    is_text(rt, row, text.as_str(), expected);
     let mut lent = vec![in alloc; 1; 3].expect(rt, "out of memory");
     let is_readable = hex_or_dash_in(&mut lent, word.as_bytes()).expect(rt, "out of memory");
     let dashed = if is_readable { Some(lent) } else { None };
-    let told = format!(in alloc; "{bytes:?} {dashed:?}").expect(rt, "out of memory");
-    is_told(rt, row, told.as_str(), expected);
+    let text = format!(in alloc; "{bytes:?} {dashed:?}").expect(rt, "out of memory");
+    is_text(rt, row, text.as_str(), expected);
 }
 
 #[test]
@@ -120,8 +120,8 @@ fn hex_is_an_even_number_of_digits(rt: HostRuntime) {
 
 // Tries the line of a fault at line 0.
 fn is_line(rt: &impl Abort, alloc: Global, code: FaultCode, expected: &str) {
-    let told = fault_line(alloc, code, 0).expect(rt, "out of memory");
-    is_told(rt, expected, told.as_str(), expected);
+    let text = fault_line(alloc, code, 0).expect(rt, "out of memory");
+    is_text(rt, expected, text.as_str(), expected);
 }
 
 #[test]

@@ -242,7 +242,7 @@ fn the_stack_is_stored_to_and_loaded_from(rt: HostRuntime) {
 fn bytes_of_the_stack_have_their_place(rt: HostRuntime) {
     holds(&rt, "two bytes", bytes_in(Size::H) == 2);
     holds(&rt, "the lowest word", place_of(-512, 8) == Some(0));
-    holds(&rt, "a byte behind it", place_of(-7, 8).is_none());
+    holds(&rt, "a byte after it", place_of(-7, 8).is_none());
     let only_words = is_whole_word(8, 8) && !is_whole_word(4, 8) && !is_whole_word(8, 4);
     holds(&rt, "aligned words", only_words);
     let pair = loaded_range(2, false);

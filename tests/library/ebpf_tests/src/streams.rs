@@ -1,13 +1,14 @@
 //! Readers and writers that give and take a few bytes a call, and then end or fail, under each of the commands.
 
-use crate::programs::holds;
+use crate::programs::{asked, holds};
 use ebpf_command::done::{Done, EngineFault};
 use ebpf_command::format::Format;
+use ebpf_one::ask::Input;
 use ebpf_one::explain::explain;
 use ebpf_one::form::Form;
 use ebpf_one::list::list;
 use ebpf_one::one::one;
-use ebpf_script::explained_check::explained_check;
+use ebpf_script::check_script::check_script;
 use ebpf_script::{check, replay, run};
 use std::alloc::Global;
 use std::io;
@@ -117,7 +118,7 @@ fn ample(alloc: Global) -> Sink {
     }
 }
 
-// Each command, with an input and the text that it tells of it.
+// Each command, with an input and the text that it says of it.
 static COMMANDS: [(&str, &str, &str); 7] = [
     (
         "one",
@@ -171,11 +172,11 @@ fn call<R: Threads + Wait + Sync>(
     writer: &mut Sink,
 ) -> Result<Done, EngineFault> {
     match command {
-        "one" => one(alloc, reader, writer, Format::Text, Form::Hex, "-", 0, false),
-        "list" => list(alloc, reader, writer, Format::Text, Form::Hex),
-        "explain" => explain(alloc, reader, writer, Format::Text, Form::Hex, "-", 0),
+        "one" => one(alloc, reader, writer, &asked(Form::Hex, "-", 0), false),
+        "list" => list(alloc, reader, writer, Format::Text, &Input::Program(Form::Hex), false),
+        "explain" => explain(alloc, reader, writer, &asked(Form::Hex, "-", 0), false),
         "check" => check(alloc, reader, writer),
-        "check --explain" => explained_check(alloc, reader, writer, Format::Text),
+        "check --explain" => check_script(alloc, reader, writer, Format::Text, true),
         "replay" => replay(alloc, reader, writer),
         _ => run(rt, alloc, reader, writer, 2, 1),
     }
@@ -231,24 +232,24 @@ fn fails_to_write<R: Abort + Threads + Wait + Sync>(
     row: (&str, &str, &str),
     at_flush: bool,
 ) {
-    let (command, input, told) = row;
+    let (command, input, text) = row;
     let mut reader = flood(0, 0, None);
     reader.text = input.as_bytes();
     let mut writer = ample(alloc);
     writer.stumbles = !at_flush;
     writer.fails_to_flush = at_flush;
     let outcome = call(rt, alloc, command, &mut reader, &mut writer);
-    let came = if at_flush { told } else { "" };
-    let is_told = matches!(outcome, Err(EngineFault::Output));
+    let came = if at_flush { text } else { "" };
+    let is_reported = matches!(outcome, Err(EngineFault::Output));
     holds(
         rt,
         command,
-        is_told && writer.got.as_slice() == came.as_bytes(),
+        is_reported && writer.got.as_slice() == came.as_bytes(),
     );
 }
 
 #[test]
-fn a_write_or_a_flush_that_fails_once_is_told(rt: HostRuntime) {
+fn a_write_or_a_flush_that_fails_once_is_reported(rt: HostRuntime) {
     for row in COMMANDS.iter().copied() {
         fails_to_write(&rt, rt.alloc(), row, false);
         fails_to_write(&rt, rt.alloc(), row, true);
@@ -264,21 +265,21 @@ fn writes_to<R: Abort + Threads + Wait + Sync>(
     give: usize,
     writer: Sink,
 ) {
-    let (command, input, told) = row;
+    let (command, input, text) = row;
     let (take, room, fails) = (writer.most, writer.room, writer.fails);
     let mut reader = flood(0, 0, None);
     reader.text = input.as_bytes();
     reader.most = give;
     let mut writer = writer;
     let outcome = call(rt, alloc, command, &mut reader, &mut writer);
-    let is_told = match outcome {
-        Ok(Done::Clean) => room >= told.len() && writer.is_flushed,
-        Err(EngineFault::Output) => room < told.len(),
+    let is_reported = match outcome {
+        Ok(Done::Clean) => room >= text.len() && writer.is_flushed,
+        Err(EngineFault::Output) => room < text.len(),
         _ => false,
     };
-    let came = &told.as_bytes()[..told.len().min(room)];
+    let came = &text.as_bytes()[..text.len().min(room)];
     assert!(rt;
-        is_told && writer.got.as_slice() == came,
+        is_reported && writer.got.as_slice() == came,
         "{command} with {give} given and {take} taken a call, room for {room}, fails: {fails}"
     );
 }
@@ -338,7 +339,7 @@ fn reads_no_further<R: Abort + Threads + Wait + Sync>(
 ) {
     let mut reader = flood(byte, 16 * 1024 * 1024, Some(io::ErrorKind::Other));
     let mut writer = ample(alloc);
-    let done = call(rt, alloc, command, &mut reader, &mut writer).expect(rt, "it is told");
+    let done = call(rt, alloc, command, &mut reader, &mut writer).expect(rt, "it is done");
     let is_fault = writer.got.starts_with(b"fault S1 line 0\n");
     let is_left = reader.times == 16 * 1024 * 1024 - 1_048_577;
     holds(
@@ -358,10 +359,10 @@ fn a_long_input_is_not_read_to_its_end(rt: HostRuntime) {
 }
 
 // Gives a command 64 of a byte. A script may have comments and blank lines alone.
-fn is_told_off<R: Abort + Threads + Wait + Sync>(rt: &R, alloc: Global, command: &str, byte: u8) {
+fn is_answered<R: Abort + Threads + Wait + Sync>(rt: &R, alloc: Global, command: &str, byte: u8) {
     let mut reader = flood(byte, 64, None);
     let mut writer = ample(alloc);
-    let done = call(rt, alloc, command, &mut reader, &mut writer).expect(rt, "it is told");
+    let done = call(rt, alloc, command, &mut reader, &mut writer).expect(rt, "it is done");
     let takes_scripts = matches!(command, "check" | "check --explain" | "replay" | "run");
     let is_passed = takes_scripts && b"#\t\n\r ".contains(&byte);
     assert!(rt;
@@ -374,7 +375,7 @@ fn is_told_off<R: Abort + Threads + Wait + Sync>(rt: &R, alloc: Global, command:
 fn any_byte_is_a_refusal_or_a_fault(rt: HostRuntime) {
     for (command, _, _) in COMMANDS.iter().copied() {
         for byte in 0..=u8::MAX {
-            is_told_off(&rt, rt.alloc(), command, byte);
+            is_answered(&rt, rt.alloc(), command, byte);
         }
     }
 }

@@ -4,7 +4,7 @@
 //! They are written from the signatures alone, so whoever knows these can read here how a call looks. What a call that allocates takes
 //! first is the allocator. Where the signatures speak of want of memory, a result has the error `AllocError` of std.
 
-use crate::programs::{bytes_of, column, holds, is_told};
+use crate::programs::{bytes_of, column, holds, is_text};
 use crate::things::{Thing, Things};
 use ebpf_core::event::{Answer, Event};
 use ebpf_core::fault::{ApplyCode, ApplyFault, ReplayFault};
@@ -156,18 +156,18 @@ fn bytes_that_are_no_program_have_a_slot_and_a_code(rt: HostRuntime) {
     let alloc = rt.alloc();
     for row in NO_PROGRAMS.lines() {
         let (slots, expected) = column(&rt, row);
-        let told = why_not(alloc, &bytes(&rt, alloc, slots)).expect(&rt, "out of memory");
-        is_told(&rt, row, told.as_str(), expected);
+        let got = why_not(alloc, &bytes(&rt, alloc, slots)).expect(&rt, "out of memory");
+        is_text(&rt, row, got.as_str(), expected);
     }
-    let told = why_not(alloc, &[]).expect(&rt, "out of memory");
-    is_told(&rt, "no bytes", told.as_str(), "I1 0");
+    let got = why_not(alloc, &[]).expect(&rt, "out of memory");
+    is_text(&rt, "no bytes", got.as_str(), "I1 0");
     let exit = bytes(&rt, alloc, "9500000000000000");
     let mut long = Vec::new(alloc);
     for _ in 0..4097 {
         long.extend_from_slice(&exit).expect(&rt, "out of memory");
     }
-    let told = why_not(alloc, &long).expect(&rt, "out of memory");
-    is_told(&rt, "4097 slots", told.as_str(), "I9 4096");
+    let got = why_not(alloc, &long).expect(&rt, "out of memory");
+    is_text(&rt, "4097 slots", got.as_str(), "I9 4096");
 }
 
 // ebpf_text
@@ -201,9 +201,9 @@ fn instructions() -> [(Insn, &'static str); 18] {
 
 // That an instruction at slot 7 has this text.
 fn has_text(rt: &impl Abort, alloc: Global, insn: &Insn, text: &str) {
-    let told = line(alloc, 7, insn).expect(rt, "out of memory");
+    let got = line(alloc, 7, insn).expect(rt, "out of memory");
     let expected = format!(in alloc; "7: {text}\n").expect(rt, "out of memory");
-    is_told(rt, text, told.as_str(), expected.as_str());
+    is_text(rt, text, got.as_str(), expected.as_str());
 }
 
 #[test]
@@ -276,8 +276,8 @@ fn operations_conditions_and_registers_have_names(rt: HostRuntime) {
 
 #[test]
 fn a_program_has_a_listing(rt: HostRuntime) {
-    let told = listing(rt.alloc(), &program(&rt, rt.alloc(), WIDE)).expect(&rt, "out of memory");
-    is_told(&rt, "a listing", told.as_str(), "0: lddw r0, 4294967298\n2: exit\n");
+    let got = listing(rt.alloc(), &program(&rt, rt.alloc(), WIDE)).expect(&rt, "out of memory");
+    is_text(&rt, "a listing", got.as_str(), "0: lddw r0, 4294967298\n2: exit\n");
 }
 
 // ebpf_flow
@@ -315,12 +315,12 @@ fn edges_that_lead_nowhere_have_a_slot_and_a_code(rt: HostRuntime) {
     let alloc = rt.alloc();
     for row in NO_FLOWS.lines() {
         let (slots, expected) = column(&rt, row);
-        let told = match ebpf_flow::check::check(alloc, program(&rt, alloc, slots)) {
+        let got = match ebpf_flow::check::check(alloc, program(&rt, alloc, slots)) {
             Ok(_) => "taken".to_string(alloc),
             Err(FlowFault::Bad { slot, code }) => format!(in alloc; "{} {slot}", flow_name(code)),
             Err(FlowFault::NoMemory) => "no memory".to_string(alloc),
         };
-        is_told(&rt, row, told.expect(&rt, "out of memory").as_str(), expected);
+        is_text(&rt, row, got.expect(&rt, "out of memory").as_str(), expected);
     }
 }
 
@@ -330,13 +330,13 @@ fn range(lo: u64, hi: u64) -> Range {
     Range { lo, hi }
 }
 
-fn is(rt: &impl Abort, what: &str, told: Range, lo: u64, hi: u64) {
-    holds(rt, what, told.lo == lo && told.hi == hi);
+fn is(rt: &impl Abort, what: &str, got: Range, lo: u64, hi: u64) {
+    holds(rt, what, got.lo == lo && got.hi == hi);
 }
 
 // That two ranges are known after a branch.
-fn are(rt: &impl Abort, what: &str, told: Option<(Range, Range)>, first: Range, second: Range) {
-    let Some((a, b)) = told else {
+fn are(rt: &impl Abort, what: &str, got: Option<(Range, Range)>, first: Range, second: Range) {
+    let Some((a, b)) = got else {
         panic!(rt; "it goes there");
     };
     is(rt, what, a, first.lo, first.hi);
@@ -361,12 +361,12 @@ fn ranges_are_computed_with(rt: HostRuntime) {
     is(&rt, "swap", swap(Order::Big, 16, range(0x1234, 0x1234)), 0x3412, 0x3412);
     is(&rt, "swap", swap(Order::Flip, 16, range(0, 1)), 0, 65_535);
     is(&rt, "hull", hull(range(1, 2), range(5, 6)), 1, 6);
-    let told = refine(Cond::Ne, w64, range(0, 5), range(0, 0), true);
-    are(&rt, "ne", told, range(1, 5), range(0, 0));
-    let told = refine(Cond::Gt, w64, range(0, 255), range(3, 3), false);
-    are(&rt, "not gt", told, range(0, 3), range(3, 3));
-    let told = refine(Cond::Set, w64, range(4, 4), range(3, 3), true);
-    holds(&rt, "set", told.is_none());
+    let got = refine(Cond::Ne, w64, range(0, 5), range(0, 0), true);
+    are(&rt, "ne", got, range(1, 5), range(0, 0));
+    let got = refine(Cond::Gt, w64, range(0, 255), range(3, 3), false);
+    are(&rt, "not gt", got, range(0, 3), range(3, 3));
+    let got = refine(Cond::Set, w64, range(4, 4), range(3, 3), true);
+    holds(&rt, "set", got.is_none());
 }
 
 // ebpf_state
@@ -506,8 +506,8 @@ fn a_refused_program_has_a_slot_and_a_code(rt: HostRuntime) {
     for row in REFUSED.lines() {
         let (declared, columns) = column(&rt, row);
         let (slots, expected) = column(&rt, columns);
-        let told = verdict(&rt, rt.alloc(), declared, slots).expect(&rt, "out of memory");
-        is_told(&rt, row, told.as_str(), expected);
+        let got = verdict(&rt, rt.alloc(), declared, slots).expect(&rt, "out of memory");
+        is_text(&rt, row, got.as_str(), expected);
     }
 }
 
@@ -607,7 +607,7 @@ fn start(alloc: Global, program: usize) -> Event {
 fn is_applied(rt: &impl Abort, world: &mut World<'_>, event: Event) {
     match world.apply(event) {
         Ok(()) => {}
-        Err(ApplyFault::Bad(code)) => is_told(rt, "it is legal", apply_name(code), ""),
+        Err(ApplyFault::Bad(code)) => is_text(rt, "it is legal", apply_name(code), ""),
         Err(ApplyFault::NoMemory) => panic!(rt; "out of memory"),
     }
 }
@@ -684,7 +684,7 @@ fn is_stopped(rt: &impl Abort, alloc: Global, programs: &[Verified], events: &[E
         Ok(_) => panic!(rt; "each event is legal"),
         Err(ReplayFault::Bad { index, code }) => {
             holds(rt, "the last event", index + 1 == events.len());
-            is_told(rt, name, apply_name(code), name);
+            is_text(rt, name, apply_name(code), name);
         }
         Err(ReplayFault::NoMemory) => panic!(rt; "out of memory"),
     }
@@ -721,8 +721,8 @@ fn is_written(rt: &impl Abort, done: Result<Done, EngineFault>, is_clean: bool, 
         Err(EngineFault::Output) => panic!(rt; "the text can't be written"),
         Err(EngineFault::NoMemory) => panic!(rt; "out of memory"),
     }
-    let told = str::from_utf8(written).expect(rt, "it is a text");
-    is_told(rt, "a command", told, text);
+    let got = str::from_utf8(written).expect(rt, "it is a text");
+    is_text(rt, "a command", got, text);
 }
 
 #[test]

@@ -1,6 +1,6 @@
 //! Instructions and their lines, written down by hand from the format.
 
-use crate::programs::{column, is_told, program_of};
+use crate::programs::{column, is_text, program_of};
 use ebpf_insn::insn::{Insn, Size};
 use ebpf_insn::register::Reg;
 use ebpf_text::line::line;
@@ -80,13 +80,13 @@ d503fbff00000000 | 0: jsle64 r3, 0, -5
 632a080000000000 | 0: stxw [r10+8], r2
 7a01f8ff05000000 | 0: stdw [r1-8], 5
 7b2a080000000000 | 0: stxdw [r10+8], r2
-# a move that extends the sign tells its bits
+# a move that extends the sign names its bits
 bc10080000000000 | 0: movs8_32 r0, r1
 bc32100000000000 | 0: movs16_32 r2, r3
 bf54080000000000 | 0: movs8_64 r4, r5
 bf76100000000000 | 0: movs16_64 r6, r7
 bf98200000000000 | 0: movs32_64 r8, r9
-# a swap tells its order and bits
+# a swap names its order and bits
 d400000010000000 | 0: le16 r0
 d400000020000000 | 0: le32 r0
 d400000040000000 | 0: le64 r0
@@ -183,8 +183,8 @@ fn is_the_line(rt: &impl Abort, alloc: Global, row: &str) {
     let slot = slot.parse::<usize>().expect(rt, "the slot is no number");
     let program = program_of(rt, alloc, digits);
     let insn = program.at(0).expect(rt, "no instruction begins there");
-    let told = line(alloc, slot, insn).expect(rt, "out of memory");
-    is_told(rt, row, told.as_str().trim_end(), expected);
+    let text = line(alloc, slot, insn).expect(rt, "out of memory");
+    is_text(rt, row, text.as_str().trim_end(), expected);
 }
 
 #[test]
@@ -206,16 +206,16 @@ fn a_signed_load_of_eight_bytes_has_its_line(rt: HostRuntime) {
         base: Reg::R10,
         offset: -4,
     };
-    let told = line(rt.alloc(), 0, &insn).expect(&rt, "out of memory");
-    assert!(rt; told.as_str() == "0: ldxsdw r0, [r10-4]\n");
+    let text = line(rt.alloc(), 0, &insn).expect(&rt, "out of memory");
+    assert!(rt; text.as_str() == "0: ldxsdw r0, [r10-4]\n");
 }
 
 #[test]
 fn a_program_has_a_line_for_each_instruction(rt: HostRuntime) {
     let digits = "b7000000fbffffffbc0a0000000000000fa900000000000004030000ffffff7f9500000000000000";
     let program = program_of(&rt, rt.alloc(), digits);
-    let told = listing(rt.alloc(), &program).expect(&rt, "out of memory");
+    let text = listing(rt.alloc(), &program).expect(&rt, "out of memory");
     let expected =
         "0: mov64 r0, -5\n1: mov32 r10, r0\n2: add64 r9, r10\n3: add32 r3, 2147483647\n4: exit\n";
-    assert!(rt; told.as_str() == expected);
+    assert!(rt; text.as_str() == expected);
 }

@@ -2,7 +2,7 @@
 //! matters.
 
 use crate::accepted::read;
-use crate::programs::{column, holds, is_told};
+use crate::programs::{column, holds, is_text};
 use ebpf_core::event::{Answer, Event};
 use ebpf_core::fault::{ApplyCode, ApplyFault, ReplayFault};
 use ebpf_core::replay::replay;
@@ -41,10 +41,10 @@ fn progress(alloc: Global, world: &World<'_>, run: usize) -> Result<String, Allo
 
 // How far the first two runs of a world are.
 fn readings(rt: &impl Abort, alloc: Global, world: &World<'_>) -> String {
-    let mut told = progress(alloc, world, 0).expect(rt, "out of memory");
+    let mut text = progress(alloc, world, 0).expect(rt, "out of memory");
     let second = progress(alloc, world, 1).expect(rt, "out of memory");
-    write!(told, ", {second}").expect(rt, "out of memory");
-    told
+    write!(text, ", {second}").expect(rt, "out of memory");
+    text
 }
 
 const STEPS: &str = "\
@@ -69,12 +69,12 @@ fn apply_and_read(
     alloc: Global,
     world: &mut World<'_>,
     event: Event,
-    told: &mut String,
+    text: &mut String,
 ) {
     world.apply(event).expect(rt, "each event is legal");
     let runs = world.runs();
     let read = readings(rt, alloc, world);
-    write!(told, "{runs}: {read}\n").expect(rt, "out of memory");
+    write!(text, "{runs}: {read}\n").expect(rt, "out of memory");
 }
 
 #[test]
@@ -82,11 +82,11 @@ fn a_world_is_read_after_each_event(rt: HostRuntime) {
     let (programs, events) = read(&rt, rt.alloc(), STEPS);
     let mut world = World::new(rt.alloc(), &programs).expect(&rt, "out of memory");
     holds(&rt, "no run before the first", world.runs() == 0);
-    let mut told = String::new(rt.alloc());
+    let mut text = String::new(rt.alloc());
     for event in events {
-        apply_and_read(&rt, rt.alloc(), &mut world, event, &mut told);
+        apply_and_read(&rt, rt.alloc(), &mut world, event, &mut text);
     }
-    is_told(&rt, "four events", told.as_str(), READ);
+    is_text(&rt, "four events", text.as_str(), READ);
 }
 
 const STARTED: &str = "\
@@ -120,8 +120,8 @@ fn five_events_lead_to_one_exit_and_one_run_that_goes_on(rt: HostRuntime) {
     let (programs, events) = read(&rt, rt.alloc(), SEVEN);
     let world = replay(rt.alloc(), &programs, &events).expect(&rt, "each event is legal");
     holds(&rt, "two runs", world.runs() == 2);
-    let told = readings(&rt, rt.alloc(), &world);
-    is_told(&rt, "five events", told.as_str(), AFTER_SEVEN);
+    let text = readings(&rt, rt.alloc(), &world);
+    is_text(&rt, "five events", text.as_str(), AFTER_SEVEN);
 }
 
 // emit(5), exit
@@ -169,14 +169,14 @@ fn is_refused(
     code: &str,
 ) {
     let mut world = replay(alloc, programs, events).expect(rt, "each event is legal");
-    let told = match world.apply(event) {
+    let text = match world.apply(event) {
         Err(ApplyFault::Bad(code)) => format!(in alloc; "{code:?}"),
         _ => "no fault".to_string(alloc),
     }
     .expect(rt, "out of memory");
-    is_told(rt, code, told.as_str(), code);
-    let told = readings(rt, alloc, &world);
-    is_told(rt, code, told.as_str(), AFTER_SEVEN);
+    is_text(rt, code, text.as_str(), code);
+    let text = readings(rt, alloc, &world);
+    is_text(rt, code, text.as_str(), AFTER_SEVEN);
 }
 
 // Tries a row of `ILLEGAL`, in a whole list and as one event more.
@@ -185,9 +185,9 @@ fn is_not_legal(rt: &impl Abort, alloc: Global, row: &str) {
     let (code, sixth) = column(rt, columns);
     let script = format!(in alloc; "{SEVEN}{sixth}").expect(rt, "out of memory");
     let (programs, mut events) = read(rt, alloc, script.as_str());
-    let told = fault_of(alloc, &programs, &events).expect(rt, "out of memory");
+    let text = fault_of(alloc, &programs, &events).expect(rt, "out of memory");
     let expected = format!(in alloc; "{code} 5").expect(rt, "out of memory");
-    is_told(rt, row, told.as_str(), expected.as_str());
+    is_text(rt, row, text.as_str(), expected.as_str());
     let event = events.pop().expect(rt, "there are six events");
     is_refused(rt, alloc, &programs, &events, event, code);
 }
@@ -211,8 +211,8 @@ fn a_start_of_no_program_is_not_legal(rt: HostRuntime) {
     is_refused(&rt, rt.alloc(), &programs, &events, start(rt.alloc()), "NoSuchProgramOrKind");
     let is_pushed = events.push(start(rt.alloc())).is_ok();
     holds(&rt, "there is memory", is_pushed);
-    let told = fault_of(rt.alloc(), &programs, &events).expect(&rt, "out of memory");
-    is_told(&rt, "no such program", told.as_str(), "NoSuchProgramOrKind 5");
+    let text = fault_of(rt.alloc(), &programs, &events).expect(&rt, "out of memory");
+    is_text(&rt, "no such program", text.as_str(), "NoSuchProgramOrKind 5");
 }
 
 const TWO_FAULTS: &str = "\
@@ -223,10 +223,10 @@ exec 0 null
 ";
 
 #[test]
-fn the_first_fault_of_two_is_told(rt: HostRuntime) {
+fn the_first_fault_of_two_is_reported(rt: HostRuntime) {
     let (programs, events) = read(&rt, rt.alloc(), TWO_FAULTS);
-    let told = fault_of(rt.alloc(), &programs, &events).expect(&rt, "out of memory");
-    is_told(&rt, "two faults", told.as_str(), "NoSuchRun 1");
+    let text = fault_of(rt.alloc(), &programs, &events).expect(&rt, "out of memory");
+    is_text(&rt, "two faults", text.as_str(), "NoSuchRun 1");
 }
 
 // A number, three sums and an exit, twice: 7 + 3 * 1, and 100 + 3 * 2.
@@ -271,8 +271,8 @@ fn events_of(alloc: Global, order: u16) -> Result<Vec<Event>, AllocError> {
 
 // That a run of a world ended so.
 fn ends_with(rt: &impl Abort, alloc: Global, world: &World<'_>, run: usize, expected: &str) {
-    let told = progress(alloc, world, run).expect(rt, "out of memory");
-    is_told(rt, expected, told.as_str(), expected);
+    let text = progress(alloc, world, run).expect(rt, "out of memory");
+    is_text(rt, expected, text.as_str(), expected);
 }
 
 // Tries an order: each program returns its number after five instructions.
@@ -295,27 +295,27 @@ fn two_programs_end_alike_in_each_of_their_924_orders(rt: HostRuntime) {
 }
 
 #[test]
-fn faults_of_events_are_told_in_words(rt: HostRuntime) {
+fn faults_of_events_are_written_in_words(rt: HostRuntime) {
     let code = ApplyCode::RunEnded;
-    let told = format!(in rt.alloc(); "{}, {}", ApplyFault::Bad(code), ApplyFault::NoMemory).expect(
+    let text = format!(in rt.alloc(); "{}, {}", ApplyFault::Bad(code), ApplyFault::NoMemory).expect(
         &rt,
         "out of memory",
     );
-    is_told(
+    is_text(
         &rt,
         "of one",
-        told.as_str(),
+        text.as_str(),
         "the event isn't legal, out of memory",
     );
     let bad = ReplayFault::Bad { index: 1, code };
-    let told = format!(in rt.alloc(); "{bad}, {}", ReplayFault::NoMemory).expect(
+    let text = format!(in rt.alloc(); "{bad}, {}", ReplayFault::NoMemory).expect(
         &rt,
         "out of memory",
     );
-    is_told(
+    is_text(
         &rt,
         "of a list",
-        told.as_str(),
+        text.as_str(),
         "event 1 isn't legal, out of memory",
     );
 }

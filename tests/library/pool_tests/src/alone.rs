@@ -41,13 +41,13 @@ fn alone_in<L: Ledger>(
 }
 
 // A report in words.
-pub(crate) fn tell(alloc: Global, report: &Report) -> Result<String, AllocError> {
+pub(crate) fn words_of(alloc: Global, report: &Report) -> Result<String, AllocError> {
     let numbers = (report.exit, report.executed, report.peak);
     in_words(alloc, numbers, &report.output.numbers, &report.answers.replies)
 }
 
 // A packed report in words.
-pub(crate) fn tell_packed(alloc: Global, report: &JobReport) -> Result<String, AllocError> {
+pub(crate) fn packed_words(alloc: Global, report: &JobReport) -> Result<String, AllocError> {
     let numbers = (report.exit(), report.executed(), report.peak());
     let mut room = [Reply::Null; FEW_ANSWERS];
     in_words(alloc, numbers, report.output(), report.answers(&mut room))
@@ -62,16 +62,16 @@ fn in_words(
 ) -> Result<String, AllocError> {
     let (exit, executed, peak) = numbers;
     let exit = exit.unwrap_or(0);
-    let mut told = format!(in alloc;
+    let mut text = format!(in alloc;
         "exit {exit} executed {executed} peak {peak} output {output:?} answers "
     )?;
     for reply in answers {
-        told.push(match reply {
+        text.push(match reply {
             Reply::Granted => 'g',
             Reply::Null => 'n',
             Reply::Empty => 'e',
             Reply::Shelf => 's',
         })?;
     }
-    Ok(told)
+    Ok(text)
 }

@@ -1,6 +1,6 @@
 //! Jobs that are done, and what comes of them.
 
-use crate::alone::{alone, tell};
+use crate::alone::{alone, words_of};
 use crate::facts::holds;
 use crate::jobs::{Setting, jobs_of};
 use crate::store::{Given, Sums};
@@ -13,7 +13,7 @@ use std::sync::Wait;
 use std::thread::Threads;
 use worker_pool::{Gate, Host, Job, Outcome, PoolFault, run_jobs};
 
-// Does the jobs of a setting, and tells what came of them: the fault or the outcome.
+// Does the jobs of a setting, and says what came of them: the fault or the outcome.
 pub(crate) fn done<G: Gate + Sync, R: Threads + Wait + Abort + Sync>(
     rt: &R,
     alloc: Global,
@@ -22,7 +22,7 @@ pub(crate) fn done<G: Gate + Sync, R: Threads + Wait + Abort + Sync>(
     gate: &G,
 ) -> Result<String, AllocError> {
     match outcome_of(rt, alloc, programs, setting, gate)? {
-        Ok(outcome) => told(alloc, &outcome),
+        Ok(outcome) => text_of(alloc, &outcome),
         Err(fault) => format!(in alloc; "{fault:?}"),
     }
 }
@@ -83,7 +83,7 @@ fn compared(
             taken: report.taken.bytes.as_slice().to_vec(alloc)?,
         };
         let (expected, sums) = alone(alloc, verified, context, given)?;
-        let is_same = tell(alloc, report)? == tell(alloc, &expected)?;
+        let is_same = words_of(alloc, report)? == words_of(alloc, &expected)?;
         holds(rt, "a job is done as its program alone", is_same);
         add(&mut all.granted, &sums.granted);
         add(&mut all.refused, &sums.refused);
@@ -100,7 +100,7 @@ fn add(counts: &mut [u64; 3], more: &[u64; 3]) {
     }
 }
 
-// That the totals are these sums: of each kind, where no other seat has a slot, and else over all kinds.
+// That the totals are these sums: of each kind, where no other seat has a slot, and otherwise over all kinds.
 fn add_up(rt: &impl Abort, outcome: &Outcome, sums: &Sums, claimed: u32) {
     let clashes = outcome.clashes;
     holds(rt, "none clashed", claimed > 0 || clashes == 0);
@@ -132,53 +132,53 @@ fn shelves_add_up(rt: &impl Abort, outcome: &Outcome, sums: &Sums) {
 }
 
 // An outcome in words: for each run of like reports how many there are of them, then its totals.
-pub(crate) fn told(alloc: Global, outcome: &Outcome) -> Result<String, AllocError> {
-    let mut told = reports_told(alloc, outcome)?;
-    let totals = totals_told(alloc, outcome)?;
-    told.push_str(totals.as_str())?;
-    Ok(told)
+pub(crate) fn text_of(alloc: Global, outcome: &Outcome) -> Result<String, AllocError> {
+    let mut text = reports_text(alloc, outcome)?;
+    let totals = totals_text(alloc, outcome)?;
+    text.push_str(totals.as_str())?;
+    Ok(text)
 }
 
 // The reports in words.
-fn reports_told(alloc: Global, outcome: &Outcome) -> Result<String, AllocError> {
-    let mut told = String::new(alloc);
+fn reports_text(alloc: Global, outcome: &Outcome) -> Result<String, AllocError> {
+    let mut text = String::new(alloc);
     let mut last = String::new(alloc);
     let mut count: u64 = 0;
     for report in &outcome.reports.reports {
-        let next = tell(alloc, report)?;
+        let next = words_of(alloc, report)?;
         if count > 0 && next != last {
-            write!(told, "{count} of {last}; ")?;
+            write!(text, "{count} of {last}; ")?;
             count = 0;
         }
         last = next;
         count = count.wrapping_add(1);
     }
     if count > 0 {
-        write!(told, "{count} of {last}; ")?;
+        write!(text, "{count} of {last}; ")?;
     }
-    Ok(told)
+    Ok(text)
 }
 
 // The totals of the caches in words, the clashes, what each shelf did that anything was put on, and the strays where there are any.
-pub(crate) fn totals_told<R>(alloc: Global, outcome: &Outcome<R>) -> Result<String, AllocError> {
-    let mut told = String::new(alloc);
+pub(crate) fn totals_text<R>(alloc: Global, outcome: &Outcome<R>) -> Result<String, AllocError> {
+    let mut text = String::new(alloc);
     for totals in &outcome.totals {
-        write!(told, "{}/{}/{} ", totals.allocs, totals.frees, totals.nulls)?;
+        write!(text, "{}/{}/{} ", totals.allocs, totals.frees, totals.nulls)?;
     }
-    write!(told, "clashes {}", outcome.clashes)?;
-    tell_shelves(&mut told, outcome)?;
+    write!(text, "clashes {}", outcome.clashes)?;
+    write_shelves(&mut text, outcome)?;
     if outcome.strays > 0 {
-        write!(told, " strays {}", outcome.strays)?;
+        write!(text, " strays {}", outcome.strays)?;
     }
-    Ok(told)
+    Ok(text)
 }
 
 // Adds what each shelf did that anything was put on: what was put there, what was got from there and what was left.
-fn tell_shelves<R>(told: &mut String, outcome: &Outcome<R>) -> Result<(), AllocError> {
+fn write_shelves<R>(text: &mut String, outcome: &Outcome<R>) -> Result<(), AllocError> {
     for (number, shelf) in outcome.shelves.iter().enumerate() {
         if shelf.puts > 0 {
             write!(
-                told,
+                text,
                 " shelf {number} {}/{}/{}",
                 shelf.puts, shelf.gets, shelf.left
             )?;

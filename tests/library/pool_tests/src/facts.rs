@@ -8,6 +8,6 @@ pub(crate) fn holds(rt: &impl Abort, what: &str, fact: bool) {
 }
 
 // That a row is reported as it says.
-pub(crate) fn is_told(rt: &impl Abort, row: &str, told: &str, expected: &str) {
-    assert!(rt; told == expected, "{row}: {told}");
+pub(crate) fn is_text(rt: &impl Abort, row: &str, text: &str, expected: &str) {
+    assert!(rt; text == expected, "{row}: {text}");
 }

@@ -1,7 +1,7 @@
 //! Jobs that a gate holds up until others are done, so that they must run side by side.
 
 use crate::done::done;
-use crate::facts::{holds, is_told};
+use crate::facts::{holds, is_text};
 use crate::jobs::setting_of;
 use crate::programs::programs_of;
 use std::alloc::{AllocError, Global};
@@ -135,8 +135,8 @@ fn is_done<R: Threads + Wait + Abort + Sync>(
     let setting = setting_of(setting);
     let gate = Watch::new(alloc, setting.count, holds_up, turns)?;
     let programs = programs_of(alloc)?;
-    let told = done(rt, alloc, programs, &setting, &gate)?;
-    is_told(rt, "under a gate", told.as_str(), expected);
+    let text = done(rt, alloc, programs, &setting, &gate)?;
+    is_text(rt, "under a gate", text.as_str(), expected);
     let passes = u64::from(setting.reaps);
     holds(rt, "the gate was passed", gate.is_passed(passes));
     Ok(())

@@ -16,9 +16,9 @@ fn is_answered<R: Threads + Wait + Abort + Print + Sync>(rt: &R, alloc: Global, 
         return;
     };
     match done(rt, alloc, programs, &setting, &NoGate) {
-        Ok(told) => {
+        Ok(text) => {
             // The script that refuses memory looks for each of the outcomes.
-            let _ = println!(rt; "memory: {told}");
+            let _ = println!(rt; "memory: {text}");
         }
         Err(_) => {
             let _ = println!(rt; "memory: none");

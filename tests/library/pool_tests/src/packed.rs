@@ -1,8 +1,8 @@
 //! Jobs of one list, whose reports stay packed: they are those of the same jobs one by one.
 
-use crate::alone::{tell, tell_packed};
-use crate::done::totals_told;
-use crate::facts::{holds, is_told};
+use crate::alone::{packed_words, words_of};
+use crate::done::totals_text;
+use crate::facts::{holds, is_text};
 use crate::jobs::{Setting, jobs_of, list_of, setting_of};
 use crate::programs::programs_of;
 use crate::table::{are_free, table_of};
@@ -46,8 +46,8 @@ fn are_same(
     let mut left = packed.iter();
     for report in reports {
         let job = left.next().ok_or(AllocError)?;
-        let (told, expected) = (tell_packed(alloc, job)?, tell(alloc, report)?);
-        is_told(rt, "a packed report", told.as_str(), expected.as_str());
+        let (text, expected) = (packed_words(alloc, job)?, words_of(alloc, report)?);
+        is_text(rt, "a packed report", text.as_str(), expected.as_str());
         let is_same = job.taken() == report.taken.bytes.as_slice();
         holds(rt, "what came off shelves", is_same);
     }
@@ -78,8 +78,8 @@ fn packed_reports_are_those_of_the_jobs_one_by_one(rt: HostRuntime) -> Result<()
             return Err(AllocError);
         };
         are_same(&rt, alloc, &packed.reports, &done.reports.reports)?;
-        let expected = totals_told(alloc, &done)?;
-        is_told(&rt, row, totals_told(alloc, &packed)?.as_str(), expected.as_str());
+        let expected = totals_text(alloc, &done)?;
+        is_text(&rt, row, totals_text(alloc, &packed)?.as_str(), expected.as_str());
     }
     Ok(())
 }
@@ -108,8 +108,8 @@ fn both_calls_find_the_same_fault(rt: HostRuntime) -> Result<(), AllocError> {
             panic!(rt; "there is a fault");
         };
         let expected = format!(in alloc; "{fault:?}")?;
-        let told = format!(in alloc; "{same:?}")?;
-        is_told(&rt, row, told.as_str(), expected.as_str());
+        let text = format!(in alloc; "{same:?}")?;
+        is_text(&rt, row, text.as_str(), expected.as_str());
     }
     Ok(())
 }

@@ -1,7 +1,7 @@
 //! Jobs that no gate holds up.
 
 use crate::done::done;
-use crate::facts::{holds, is_told};
+use crate::facts::{holds, is_text};
 use crate::jobs::{Setting, setting_of};
 use crate::programs::programs_of;
 use std::alloc::{AllocError, Global};
@@ -24,10 +24,10 @@ outputs are the jobs' own | 2 4 0 0 2 d | 1 of exit 2 executed 7 peak 0 output [
 objects are the jobs' own | 1 4 0 0 2 f | 1 of exit 1 executed 12 peak 1 output [0] answers g; 1 of exit 1 executed 12 peak 1 output [1] answers g; 0/0/0 2/2/0 0/0/0 clashes 0
 a job takes what the one before left on a shelf | 1 1 0 0 2 hi | 1 of exit 1 executed 10 peak 1 output [] answers ge; 1 of exit 5 executed 9 peak 1 output [] answers s; 1/1/0 0/0/0 0/0/0 clashes 0 shelf 0 1/1/0
 what the last job left goes back | 1 1 0 0 2 hh | 1 of exit 1 executed 10 peak 1 output [] answers ge; 1 of exit 1 executed 12 peak 1 output [] answers gs; 2/2/0 0/0/0 0/0/0 clashes 0 shelf 0 2/1/1
-nothing stands on a shelf | 1 1 0 0 1 i | 1 of exit 0 executed 5 peak 0 output [] answers e; 0/0/0 0/0/0 0/0/0 clashes 0
+nothing is on a shelf | 1 1 0 0 1 i | 1 of exit 0 executed 5 peak 0 output [] answers e; 0/0/0 0/0/0 0/0/0 clashes 0
 an object keeps what is written to it on a shelf | 1 4 0 0 4 mjmm | 1 of exit 2 executed 6 peak 0 output [] answers e; 1 of exit 1 executed 12 peak 1 output [] answers ge; 1 of exit 2 executed 13 peak 1 output [1, 1] answers s; 1 of exit 2 executed 6 peak 0 output [] answers e; 1/1/0 0/0/0 0/0/0 clashes 0 shelf 0 1/1/0
 each kind has a shelf of its own | 1 4 0 0 6 jklmno | 3 of exit 1 executed 12 peak 1 output [] answers ge; 1 of exit 2 executed 13 peak 1 output [0, 0] answers s; 1 of exit 2 executed 13 peak 1 output [1, 1] answers s; 1 of exit 2 executed 13 peak 1 output [2, 2] answers s; 1/1/0 1/1/0 1/1/0 clashes 0 shelf 0 1/1/0 shelf 1 1/1/0 shelf 2 1/1/0
-what stands on a shelf has the one page | 1 1 0 0 2 hk | 1 of exit 1 executed 10 peak 1 output [] answers ge; 1 of exit 0 executed 5 peak 0 output [] answers n; 1/1/0 0/0/1 0/0/0 clashes 0 shelf 0 1/0/1
+what is on a shelf has the one page | 1 1 0 0 2 hk | 1 of exit 1 executed 10 peak 1 output [] answers ge; 1 of exit 0 executed 5 peak 0 output [] answers n; 1/1/0 0/0/1 0/0/0 clashes 0 shelf 0 1/0/1
 
 no page | 1 0 0 0 1 a | Pages
 257 pages | 1 257 0 0 1 a | Pages
@@ -45,18 +45,18 @@ no worker, no such program | 0 1 0 0 2 a! | Workers
 65 workers, a context too long | 65 1 0 0 2 aA | Workers
 a job too many, no such program | 1 1 0 0 1048577 ! | Jobs
 a job too many, a context too long | 1 1 0 0 1048577 A | Jobs
-no such program behind a context too long | 1 1 0 0 3 aA! | Program { job: 2 }";
+no such program after a context too long | 1 1 0 0 3 aA! | Program { job: 2 }";
 
 #[test]
-fn rows_are_told(rt: HostRuntime) -> Result<(), AllocError> {
+fn rows_are_reported(rt: HostRuntime) -> Result<(), AllocError> {
     for row in ROWS.lines() {
         let Some((what, columns)) = row.split_once(" | ") else {
             continue;
         };
         let (setting, expected) = columns.split_once(" | ").ok_or(AllocError)?;
         let programs = programs_of(rt.alloc())?;
-        let told = done(&rt, rt.alloc(), programs, &setting_of(setting), &NoGate)?;
-        is_told(&rt, what, told.as_str(), expected);
+        let text = done(&rt, rt.alloc(), programs, &setting_of(setting), &NoGate)?;
+        is_text(&rt, what, text.as_str(), expected);
     }
     Ok(())
 }
@@ -78,8 +78,8 @@ fn mixed<R: Threads + Wait + Abort + Sync>(
         letters: "abcdefbbfa",
     };
     let programs = programs_of(alloc)?;
-    let told = done(rt, alloc, programs, &setting, &NoGate)?;
-    holds(rt, "no seat clashed", told.as_str().ends_with("clashes 0"));
+    let text = done(rt, alloc, programs, &setting, &NoGate)?;
+    holds(rt, "no seat clashed", text.as_str().ends_with("clashes 0"));
     Ok(())
 }
 

@@ -1,7 +1,7 @@
 //! Objects that jobs leave on shelves for one another, each with the number of the job that made it in its bytes.
 
-use crate::done::{outcome_of, totals_told};
-use crate::facts::{holds, is_told};
+use crate::done::{outcome_of, totals_text};
+use crate::facts::{holds, is_text};
 use crate::jobs::{Setting, setting_of};
 use crate::programs::programs_of;
 use ebpf_machine::report::Report;
@@ -11,7 +11,7 @@ use std::sync::Wait;
 use std::thread::Threads;
 use worker_pool::{NoGate, Outcome};
 
-// What comes of the jobs of a setting, where there is no fault.
+// What comes of the jobs of a setting, if there is no fault.
 fn outcome_for<R: Threads + Wait + Abort + Sync>(
     rt: &R,
     alloc: Global,
@@ -41,9 +41,9 @@ fn one_job_of_a_hundred_finds_its_shelf_empty(rt: HostRuntime) -> Result<(), All
     let first = reports.iter().filter(|report| is_first(report)).count();
     let later = reports.iter().filter(|report| is_later(report)).count();
     holds(&rt, "one found nothing", first == 1 && later == 99);
-    let totals = totals_told(rt.alloc(), &outcome)?;
+    let totals = totals_text(rt.alloc(), &outcome)?;
     let expected = "100/100/0 0/0/0 0/0/0 clashes 0 shelf 0 100/99/1";
-    is_told(&rt, "a hundred jobs", totals.as_str(), expected);
+    is_text(&rt, "a hundred jobs", totals.as_str(), expected);
     Ok(())
 }
 
@@ -154,10 +154,10 @@ fn is_shared<R: Threads + Wait + Abort + Sync>(
     let (kinds, expected) = columns.split_once(" |").ok_or(AllocError)?;
     let outcome = outcome_for(rt, alloc, &setting_of(setting))?;
     is_handed_over(rt, alloc, &outcome, kinds.parse().unwrap_or(1))?;
-    let totals = totals_told(alloc, &outcome)?;
+    let totals = totals_text(alloc, &outcome)?;
     let expected = expected.trim();
     if !expected.is_empty() {
-        is_told(rt, what, totals.as_str(), expected);
+        is_text(rt, what, totals.as_str(), expected);
     }
     Ok(())
 }

@@ -1,4 +1,4 @@
-//! A store that answers the calls of a run as it is told to.
+//! A store that answers the calls of a run as it was given.
 
 use ebpf_machine::kinds::row_of;
 use ebpf_machine::objects::Objects;
@@ -52,7 +52,7 @@ pub(crate) struct Tally<L: Ledger> {
     misses: Share<L>,
 }
 
-// A store for one run, with what it gives; nothing, where there is no answer more or no memory. A slot is granted once, and what
+// A store for one run, with what it gives; nothing, if there is no answer more or no memory. A slot is granted once, and what
 // comes off a shelf is in a slot of its own.
 #[derive(Drop)]
 pub(crate) struct Store<L: Ledger> {

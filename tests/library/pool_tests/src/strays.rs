@@ -1,7 +1,7 @@
 //! Objects on the shelf of cells whose slots a seat that no worker has takes away before they come off.
 
-use crate::done::told;
-use crate::facts::is_told;
+use crate::done::text_of;
+use crate::facts::is_text;
 use crate::jobs::{jobs_of, setting_of};
 use crate::programs::programs_of;
 use crate::table::{owned, table_of};
@@ -83,7 +83,7 @@ fn deed_of(word: &str) -> Deed {
     }
 }
 
-// Does the jobs of a setting while the outsider does the deed once job 0 was answered, and tells what came of them, and how many
+// Does the jobs of a setting while the outsider does the deed once job 0 was answered, and says what came of them, and how many
 // slots runs have in the end, and shelves.
 fn stolen<R: Threads + Wait + Abort + Sync>(
     rt: &R,
@@ -119,8 +119,8 @@ fn stolen<R: Threads + Wait + Abort + Sync>(
     let Ok(outcome) = result else {
         return Err(AllocError);
     };
-    let told = told(alloc, &outcome)?;
-    format!(in alloc; "{told} runs {runs} shelves {shelves}")
+    let text = text_of(alloc, &outcome)?;
+    format!(in alloc; "{text} runs {runs} shelves {shelves}")
 }
 
 // A row: what it shows; the setting of its jobs; what the outsider does with the slot of what job 0 left; and what is reported.
@@ -134,13 +134,13 @@ a stray is asked for again, and its slot is free | 1 1 0 0 4 hihi | releases | 1
 what is left has another owner in the end | 1 1 0 0 1 h | keeps | 1 of exit 1 executed 10 peak 1 output [] answers ge; 1/1/0 0/0/0 0/0/0 clashes 0 shelf 0 1/0/1 runs 1 shelves 0";
 
 #[test]
-fn a_stray_goes_back_and_is_not_told(rt: HostRuntime) -> Result<(), AllocError> {
+fn a_stray_goes_back_and_is_not_reported(rt: HostRuntime) -> Result<(), AllocError> {
     for row in ROWS.lines() {
         let (what, columns) = row.split_once(" | ").ok_or(AllocError)?;
         let (setting, columns) = columns.split_once(" | ").ok_or(AllocError)?;
         let (deed, expected) = columns.split_once(" | ").ok_or(AllocError)?;
-        let told = stolen(&rt, rt.alloc(), setting, deed_of(deed))?;
-        is_told(&rt, what, told.as_str(), expected);
+        let text = stolen(&rt, rt.alloc(), setting, deed_of(deed))?;
+        is_text(&rt, what, text.as_str(), expected);
     }
     Ok(())
 }

@@ -52,7 +52,7 @@ fn are(totals: Totals, allocs: u64, frees: u64, nulls: u64) -> bool {
     totals.allocs == allocs && totals.frees == frees && totals.nulls == nulls && totals.missing == 0 && totals.foreign == 0
 }
 
-// That a job ended with this number, after so many instructions and with this peak.
+// That a job ended with this number, after that many instructions and with this peak.
 fn ended(report: &Report, exit: u64, executed: u64, peak: u64) -> bool {
     report.exit == Some(exit) && report.executed == executed && report.peak == peak
 }
@@ -127,7 +127,7 @@ fn one_job_leaves_an_object_for_the_next(rt: HostRuntime) -> Result<(), AllocErr
     Ok(())
 }
 
-// How often each point was told of.
+// How often each point was reported.
 #[derive(Drop)]
 struct Counts {
     begun: AtomicU64,

@@ -1,7 +1,7 @@
 //! A run by single steps, and the same this many instructions at a time.
 
-use crate::alone::tell;
-use crate::facts::is_told;
+use crate::alone::words_of;
+use crate::facts::is_text;
 use crate::programs::programs_of;
 use crate::store::{Given, Store};
 use ebpf_machine::objects::Objects;
@@ -29,13 +29,13 @@ fn go<O: Objects>(run: &mut Run<'_, O::Held>, objects: &mut O, limit: u64, by_st
 }
 
 // What is read of a run after a turn: the turn, its exit, its pc, how many instructions it did, and its output.
-fn read<H>(rt: &impl Abort, told: &mut String, turn: Turn, run: &Run<'_, H>) {
+fn read<H>(rt: &impl Abort, text: &mut String, turn: Turn, run: &Run<'_, H>) {
     let turn = match turn {
         Turn::Went => None,
         Turn::Exited(number) => Some(number),
     };
     let (exit, pc, executed, output) = (run.exit(), run.pc(), run.executed(), run.output());
-    write!(told, "{turn:?} {exit:?} {pc} {executed} {output:?}; ").expect(rt, "out of memory");
+    write!(text, "{turn:?} {exit:?} {pc} {executed} {output:?}; ").expect(rt, "out of memory");
 }
 
 // Runs a program, this many instructions at a time, as often as it has instructions: what is read each time, and its report. The
@@ -50,15 +50,15 @@ fn trace_over<O: Objects>(
 ) -> String {
     let context = vec![in alloc; 5; verified.decl().context as usize].expect(rt, "out of memory");
     let mut run = Run::start(alloc, verified, context).expect(rt, "out of memory");
-    let mut told = String::new(alloc);
+    let mut text = String::new(alloc);
     'turns: for _ in 0..verified.len() {
         let turn = go(&mut run, objects, limit, by_steps);
-        read(rt, &mut told, turn, &run);
+        read(rt, &mut text, turn, &run);
     }
     let report = run.finish(objects);
-    let report = tell(alloc, &report).expect(rt, "out of memory");
-    write!(told, "{report}").expect(rt, "out of memory");
-    told
+    let report = words_of(alloc, &report).expect(rt, "out of memory");
+    write!(text, "{report}").expect(rt, "out of memory");
+    text
 }
 
 // The same over a store of its own, with a new ledger.
@@ -111,7 +111,7 @@ fn is_alike(rt: &impl Abort, alloc: Global, verified: &Verified, answers: &str) 
     for limit in [1, 3, u64::MAX] {
         let stepped = trace(rt, alloc, verified, answers, limit, true);
         let run = trace(rt, alloc, verified, answers, limit, false);
-        is_told(rt, answers, run.as_str(), stepped.as_str());
+        is_text(rt, answers, run.as_str(), stepped.as_str());
     }
 }
 
@@ -154,7 +154,7 @@ fn a_run_stops_at_its_limit_and_at_its_exit(rt: HostRuntime) {
     let programs = programs_of(rt.alloc()).expect(&rt, "out of memory");
     for (program, limit, expected) in ROWS.iter().copied() {
         let verified = programs.get(program).expect(&rt, "there is such a program");
-        let told = trace(&rt, rt.alloc(), verified, "", limit, false);
-        is_told(&rt, "a limit", told.as_str(), expected);
+        let text = trace(&rt, rt.alloc(), verified, "", limit, false);
+        is_text(&rt, "a limit", text.as_str(), expected);
     }
 }

@@ -1,6 +1,6 @@
 //! Bytes and their outcomes: the table of `super`.
 
-// What a row shows, how many exits stand first, the bytes after them, and how many instructions all of it is or why it is
+// What a row shows, how many exits come first, the bytes after them, and how many instructions all of it is or why it is
 // no program.
 pub(crate) const CASES: &str = "\
 # an exit has its opcode alone
@@ -200,4 +200,4 @@ a wide one that ends in time | 4094 | 18030000020000000000000001000000 | 4095
 a wide one that ends too late | 4095 | 18030000020000000000000001000000 | slot 4096 is refused with ProgramTooLong
 a bad one that ends too late | 4095 | 18030000020000009500000001000000 | slot 4095 is refused with BadSecondSlot
 half a wide one | 4095 | 1803000002000000 | slot 4095 is refused with MissingSecondSlot
-a wide one behind the end | 4096 | 18030000020000000000000001000000 | slot 4096 is refused with ProgramTooLong";
+a wide one after the end | 4096 | 18030000020000000000000001000000 | slot 4096 is refused with ProgramTooLong";

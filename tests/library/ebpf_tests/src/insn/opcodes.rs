@@ -71,8 +71,8 @@ fn each_field_of_each_opcode(rt: HostRuntime) {
     for opcode in 0..=u8::MAX {
         let cell = cells.next().expect(&rt, "a cell is missing");
         let expected = if cell == "-" { "22222" } else { cell };
-        let told = letters_of(&rt, rt.alloc(), opcode);
-        assert!(rt; told.as_str() == expected, "opcode {opcode}: {told}");
+        let text = letters_of(&rt, rt.alloc(), opcode);
+        assert!(rt; text.as_str() == expected, "opcode {opcode}: {text}");
     }
     assert!(rt; cells.next().is_none());
 }
