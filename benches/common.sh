@@ -11,7 +11,7 @@
 here=$(CDPATH='' cd -- "$(dirname -- "$0")" && pwd)
 root=$(CDPATH='' cd -- "$here/../.." && pwd)
 
-# Stops where a command isn't there: COMMAND..
+# Stops if a command isn't there: COMMAND..
 need() {
     for command; do
         if ! command -v "$command" > /dev/null; then

@@ -76,7 +76,7 @@ static ebpf_status run(const char *context, uint64_t limit) {
     return status;
 }
 
-/* takes a cell, reads back the 5 that it wrote there, and returns it; 0 where it gets none */
+/* takes a cell, reads back the 5 that it wrote there, and returns it; 0 if it gets none */
 #define CELL "b701000000000000850000000100000015000500000000007a00000005000000" \
              "7906000000000000bf010000000000008500000002000000bf600000000000009500000000000000"
 /* emits the byte of the context and returns 7 */
@@ -154,7 +154,7 @@ static unsigned each_refusal(const char *path) {
     return rows;
 }
 
-/* A sentence is cut if there is no more room, and nothing after it is written. Where it fits with a zero, that is written too. */
+/* A sentence is cut if there is no more room, and nothing after it is written. If it fits with a zero, that is written too. */
 static void a_short_text(void) {
     uint8_t bytes[16];
     size_t length = bytes_of(READ, bytes);
@@ -201,7 +201,7 @@ static int ends(const char *line) {
     return refusal.length >= length && !strcmp(text + refusal.length - length, line);
 }
 
-/* Under the sentence of a slot that is refused with a context of 15 bytes is its line of C, as far as there is room, and nothing where the
+/* Under the sentence of a slot that is refused with a context of 15 bytes is its line of C, as far as there is room, and nothing if the
  * file has no lines or they can't be read. */
 static void each_line(const char *path, const char *name, const char *code, uint32_t slot, const char *line) {
     char cut[sizeof text];

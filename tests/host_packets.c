@@ -1,4 +1,4 @@
-/* A host of some threads that run one program, each on a machine of its own. The machines, and a handle of the program for each, lie side
+/* A host of some threads that run one program, each on a machine of its own. The machines, and a handle of the program for each, are side
  * by side in an array, as docs/EMBEDDING.md shows it. The words: the program's slots as hex, the bytes of its context, how many objects it
  * holds, how many threads there are, and how many runs each does. It writes the nanoseconds that the runs took. */
 #include <assert.h>

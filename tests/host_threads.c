@@ -8,7 +8,7 @@
 
 enum { THREADS = 4, RUNS = 200 };
 
-/* takes a cell, reads the byte of the context, gives the cell back, and returns the byte; 0 where it gets no cell */
+/* takes a cell, reads the byte of the context, gives the cell back, and returns the byte; 0 if it gets no cell */
 static const uint8_t slots[] = {
     0xbf, 0x16, 0, 0, 0, 0, 0, 0, /* r6 = r1 */
     0xb7, 0x01, 0, 0, 0, 0, 0, 0, /* r1 = 0 */

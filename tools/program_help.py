@@ -48,7 +48,7 @@ def option_of(words, about):
 
 
 def read(text):
-    """The parts of a help, as clap and argparse write it where a line may be long."""
+    """The parts of a help, as clap and argparse write it if a line may be long."""
     sections = sections_of(text)
     usage = re.search(r'^[Uu]sage: (.*)$', text, re.M)[1]
     plain = [line for line in sections[''] if not re.match('[Uu]sage: ', line)]

@@ -1,4 +1,4 @@
-/* A packet filter, that many times over packets that lie in memory, as a host does it: by the library, or as the C that it was compiled from. The
+/* A packet filter, that many times over packets in memory, as a host does it: by the library, or as the C that it was compiled from. The
  * words: the program's slots as hex, how many runs, and `native` for the C itself. It writes the nanoseconds that the runs took. */
 #include <stdio.h>
 #include <stdlib.h>

@@ -1,7 +1,7 @@
-// How many of three levels lie in each quarter of 0 to 255: the counts of the highest and of the lowest are emitted.
+// How many of three levels are in each quarter of 0 to 255: the counts of the highest and of the lowest are emitted.
 //
-// The context is the levels, a byte each. The counts lie in a cell, which is freed at one place, to which a level that can't be
-// leads too, after it was emitted: 0, 1 where there is no cell, 2 where a level can't be.
+// The context is the levels, a byte each. The counts are in a cell, which is freed at one place. A level that can't be leads there
+// too, after it was emitted. The result is 0, 1 if there is no cell, or 2 if a level can't be.
 //
 // context 3, held 1
 // census.clang.hex: clang 14.0.6, clang -O2 -target bpfel -mcpu=v1

@@ -1,4 +1,5 @@
-// The helpers: those of a program for eBPF, and as functions of native.c where a program is compiled for the machine itself. There nothing is put into its caller, so that each branch of the C is counted once.
+// The helpers: those of a program for eBPF, or functions of native.c if a program is compiled for the machine itself. There nothing is put
+// into its caller, so each branch of the C is counted once.
 typedef unsigned char byte;
 typedef unsigned int word;
 typedef unsigned long number;

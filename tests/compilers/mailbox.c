@@ -1,6 +1,6 @@
 // Leaves two letters in a mailbox, which is the shelf of cells, one after the other: how many it could leave.
 //
-// The context is the letters, a byte each, where 0 is none. A letter that finds another there takes its place, and that one is
+// The context is the letters, a byte each; 0 is none. A letter that finds another there takes its place, and that one is
 // emitted and freed, which is rare.
 //
 // context 2, held 1

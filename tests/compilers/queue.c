@@ -1,5 +1,5 @@
 // Which queue an IPv4 packet waits in, from 0 for what may wait to 3 for what may not. For all but the last it is emitted, or the
-// protocol where no rule is for it.
+// protocol if no rule is for it.
 //
 // The context is the first 24 bytes of the packet: its header and the two ports.
 //

@@ -1,7 +1,7 @@
 // What an Ethernet frame carries, after up to two VLAN tags, which are emitted: 4 or 6 for IP, 1 for ARP, 2 for a frame of the old
-// form, whose type is a length, else 0.
+// form, whose type is a length, otherwise 0.
 //
-// The context is the first 22 bytes of the frame. A frame with tags is rare, and goes on where one without does.
+// The context is the first 22 bytes of the frame. A frame with tags is rare, and goes on at the same place as one without.
 //
 // context 22, held 0
 // vlan.clang.hex: clang 14.0.6, clang -O1 -target bpfel -mcpu=v1

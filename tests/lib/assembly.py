@@ -90,7 +90,7 @@ def encoded(text):
 
 
 def assembled(listing):
-    """The bytes of a listing; ValueError where a line is none of one, or has another slot than its own."""
+    """The bytes of a listing; ValueError if a line is none of one, or has another slot than its own."""
     whole = b''
     for line in listing.splitlines():
         number, _, text = line.partition(': ')

@@ -18,7 +18,7 @@ SECONDS = 60  # a call that takes longer has failed
 
 
 class Answer(NamedTuple):
-    """How a call ended: its status, None where it took too long, and what it wrote to both streams, a character a byte."""
+    """How a call ended: its status, None if it took too long, and what it wrote to both streams, a character a byte."""
     status: int
     text: str
     error: str

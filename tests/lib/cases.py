@@ -12,7 +12,7 @@ COMMAND AND OPTIONS are words as in a shell, so that '' is an empty one. A word 
 that may be left out: the case is tried without it and with it.
 
 In INPUT a program may be written as instructions, as `list` writes them, between backquotes and with a semicolon between two:
-`mov64 r0, 7; exit` is its hex. Hex stays where the bytes are what is tried.
+`mov64 r0, 7; exit` is its hex. Hex stays if the bytes are what is tried.
 
 In INPUT, TEXT and the words \n \t \r \\ and \xHH are escapes. \xHH is a byte: \x20 is a blank at an end of a field, \x7c
 a bar, and a character beyond ASCII has its UTF-8 bytes. {PART*N} is PART, N times; # in PART is the number of the turn,
@@ -59,7 +59,7 @@ def repeated(part, times):
 
 
 def bytes_of(field):
-    """The bytes that a field stands for."""
+    """The bytes that a field means."""
     first, *pieces = re.split(r'\{([^{}*]*)\*([0-9]+)\}', field)
     text = plain(first)
     for part, times, rest in zip(pieces[::3], pieces[1::3], pieces[2::3]):
@@ -80,7 +80,7 @@ def words_of(command):
 
 
 def choices_of(word):
-    """The words that a word stands for: none or one where it is in brackets."""
+    """The choices for a word: itself, and none too if it is in brackets."""
     if word.startswith('[') != word.endswith(']'):
         raise ValueError(f'one bracket alone: {word}')
     return [[], [word[1:-1]]] if word.startswith('[') else [[word]]
@@ -93,7 +93,7 @@ def calls_of(command):
 
 
 def case_of(line):
-    """The case that a line of the table stands for."""
+    """The case of a line of the table."""
     if not re.fullmatch('[ -~]*', line):
         raise ValueError('a character that is not printable ASCII: write its bytes as \\xHH')
     fields = [field.strip() for field in line.split('|')]
@@ -124,5 +124,5 @@ def cases_of(lines):
 
 
 def cases():
-    """The cases of the table, in its order; ValueError where it can't be read."""
+    """The cases of the table, in its order; ValueError if it can't be read."""
     return list(cases_of(TABLE.read_text(encoding='ascii', errors='replace').split('\n')).values())

@@ -1,8 +1,8 @@
-"""What the commands write with `--json`: the objects of its lines, and the lines of text that they stand for."""
+"""What the commands write with `--json`: the objects of its lines, and the lines of text with the same content."""
 
 import json
 
-# the members of an object, in order, and the lines that it stands for; each number of its output is a line before them
+# the members of an object, in order, and its lines of text; each number of its output is a line before them
 FORMS = {
     'program accepted': '{program} accepted {accepted}\n',
     'program refused slot': '{program} refused {refused} {slot}\n',
@@ -39,7 +39,7 @@ def objects_of(text):
 
 
 def lines_of(members):
-    """The lines of text that an object stands for."""
+    """The lines of text of an object."""
     form = FORMS[' '.join(members)]
     owner = next((f'{members[word]} ' for word in ('job', 'run') if word in members), '')
     shown = {name: visible(value) if name in ('file', 'source') else value for name, value in members.items()}
@@ -54,7 +54,7 @@ def visible(text):
 
 
 def text_of(text):
-    """The text that objects on lines stand for; none where a line is no object of a form."""
+    """The text of objects on lines; none if a line is no object of a form."""
     try:
         return ''.join(map(lines_of, objects_of(text)))
     except (ValueError, LookupError, TypeError):

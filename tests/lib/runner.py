@@ -23,7 +23,7 @@ from typing import NamedTuple
 
 TOP = Path(__file__).resolve().parents[2]
 NEEDED = {'gcc', 'g++', 'valgrind'}
-USEFUL = {'jq', 'parallel', 'perl', 'pkg-config', 'man', 'bwrap', 'dh', 'lintian', 'dot'}  # what needs it is left out where it isn't there
+USEFUL = {'jq', 'parallel', 'perl', 'pkg-config', 'man', 'bwrap', 'dh', 'lintian', 'dot'}  # what needs it is left out if it isn't there
 LONG = 60  # seconds after which a test is named that is still running
 PACKAGES = {'man': 'man-db', 'bwrap': 'bubblewrap', 'dh': 'debhelper', 'dot': 'graphviz'}  # of Debian; each other has the tool's name
 
@@ -31,8 +31,8 @@ PACKAGES = {'man': 'man-db', 'bwrap': 'bubblewrap', 'dh': 'debhelper', 'dot': 'g
 class Test(NamedTuple):
     name: str
     words: list
-    is_of_program: bool = False  # whether it needs the built program alone
-    about: str = ''  # what it does, where no file says it
+    is_of_program: bool = False  # whether it needs only the built program
+    about: str = ''  # what it does, if no file says it
 
 
 def script(name, is_of_program=False):
@@ -75,7 +75,7 @@ def missing(tools):
 
 
 def install(packages):
-    """Installs these packages, where that can be done."""
+    """Installs these packages, if that can be done."""
     if os.geteuid() or not shutil.which('apt-get'):
         return
     command = f'apt-get update && apt-get install -y --no-install-recommends {" ".join(packages)}'
@@ -113,7 +113,7 @@ def has_toolchain():
 
 
 def passes(test):
-    """Whether a test passes. One that doesn't is named, with the way to run it alone."""
+    """Whether a test passes. One that doesn't is named, with the way to run it by itself."""
     began = time.monotonic()
     reminder = threading.Timer(LONG, print, [f'test: {test.name} is still running: {about(test)}'], {'flush': True})
     reminder.daemon = True
@@ -121,7 +121,7 @@ def passes(test):
     status = subprocess.run(test.words, cwd=TOP, stdin=subprocess.DEVNULL, check=False).returncode
     reminder.cancel()
     if status:
-        print(f'test: {test.name} failed with status {status}; alone it is run by: ./test {test.name}', file=sys.stderr)
+        print(f'test: {test.name} failed with status {status}; to run it by itself: ./test {test.name}', file=sys.stderr)
     elif time.monotonic() - began > LONG:
         print(f'test: {test.name} took {(time.monotonic() - began) / 60:.0f} minutes', flush=True)
     return status == 0

@@ -1,5 +1,5 @@
 """The examples that a document shows: a command after `    $ `, with the lines that its quotes or its here-document go on for, and after it
-the text that it writes, indented like it. It ends with status 2 where the text holds a refusal, a fault or an event that isn't legal.
+the text that it writes, indented like it. It ends with status 2 if the text has a refusal, a fault or an event that isn't legal.
 """
 
 import re

@@ -28,7 +28,7 @@ class Worst(NamedTuple):
         return self.head + b''.join(map(self.part, range(parts)))
 
     def most(self):
-        """How many parts an input may have: none where a part has no bytes."""
+        """How many parts an input may have: none if a part has no bytes."""
         size, parts = len(self.head), 0
         while (part := self.part(parts)) and size + len(part) <= MOST:
             size += len(part)
@@ -139,7 +139,7 @@ def sourced(count, texts):
 
 
 def ledgers(records=0):
-    """The last lines of `replay`, where that many records have joined."""
+    """The last lines of `replay`, if that many records have joined."""
     return ''.join(f'kind {kind} slots {slots} held 0\n' for kind, slots in enumerate((0, records, 0)))
 
 
@@ -151,7 +151,7 @@ def covered_text(jobs):
     return ''.join(lines)
 
 
-# the last lines of `run`, where no object was granted
+# the last lines of `run`, if no object was granted
 CACHES = ''.join(f'cache {name} allocs 0 frees 0 nulls 0 missing 0\n' for name in ('cell', 'record', 'block'))
 
 # Names of 32 letters that the hash of a map that isn't meant for names of strangers takes for one: with its state after the first

@@ -16,7 +16,7 @@ abbrev pub half_copied : Insn → List (Option ℕ)
 half_copied (insn.Wide dst value) = None ∷ []
 half_copied i = []
 
--- the slots are those of so many instructions, and where one copies a slot of the old program, it is the instruction of that
+-- the slots are those of `count` instructions, and one that copies a slot of the old program has the instruction of that
 pub record IsWritten (p code : List (Option Insn)) (of : List (Option ℕ)) (count : ℕ) : Type 0 where
   pub coded : IsCode code count
   pub even : length of ≡ length code

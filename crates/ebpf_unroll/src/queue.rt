@@ -26,7 +26,7 @@ pub(crate) struct Queue {
 }
 
 impl Queue {
-    /// Nothing is pending at any of so many slots.
+    /// A queue over that many slots, with nothing pending at any.
     pub(crate) fn new(alloc: Global, slots: usize) -> Result<Queue, AllocError> {
         let mut pending = Vec::with_capacity(alloc, slots)?;
         for _ in 0..slots {

@@ -51,7 +51,7 @@ fn spans_that_come_back_are_merged(rt: HostRuntime) {
     holds(&rt, arena.give(high) && arena.largest() == 4);
 }
 
-// Gives the span back where it has page 0 or 2.
+// Gives the span back if it has page 0 or 2.
 fn give_if_even(rt: &impl Abort, arena: &mut Arena, span: Span) {
     if span.first() == 0 || span.first() == 2 {
         holds(rt, arena.give(span));
@@ -152,7 +152,7 @@ impl Hand {
         }
     }
 
-    // Takes n pages of the arena, where the list has as many next to one another.
+    // Takes n pages of the arena, if the list has as many next to one another.
     fn take(&mut self, rt: &impl Abort, arena: &mut Arena, n: u32) {
         let longest = longest_run(&self.taken);
         match arena.take(n) {
@@ -196,7 +196,7 @@ const UNITS: [u64; 12] = [
 const ORDERS: u64 = 13_841_287_201;
 
 // Plays an order in an arena of 8 pages, and answers how far the next one is that begins otherwise: by a digit that
-// can't be played, with the higher ones where no span has its number, or by the last.
+// can't be played, with the higher ones if no span has its number, or by the last.
 fn play(rt: &impl Abort, alloc: Global, lengths: [u32; 3], order: u64) -> u64 {
     let mut arena = arena_of(rt, alloc, 8);
     let mut hand = Hand::new(rt, alloc, 8);

@@ -105,7 +105,7 @@ fn are(totals: Totals, allocs: u64, frees: u64, nulls: u64) -> bool {
         && totals.foreign == 0
 }
 
-// One hand takes 17 cells and gives them back: 16 lie in its layer or in the depot, and one in a new magazine.
+// One hand takes 17 cells and gives them back: 16 are in its layer or in the depot, and one in a new magazine.
 fn seventeen<A: Ledger, B: Ledger, R: Wait + Abort>(
     rt: &R,
     alloc: Global,
@@ -228,8 +228,8 @@ fn a_page_of_blocks_is_found_again_in_the_depot(rt: HostRuntime) {
     eight::<Brand, Brand, HostRuntime>(&rt, rt.alloc(), Blank::new(65), Blank::new(65));
 }
 
-// A hand takes the 8 blocks of the one page and gives them back: 4 lie in its layer, and 4 in its part of the depot, where
-// another hand finds them, a whole magazine at a time, and no more.
+// A hand takes the 8 blocks of the one page and gives them back: 4 are in its layer, and 4 in its part of the depot, where
+// another hand finds only these, a whole magazine at a time.
 fn found<A: Ledger, B: Ledger, R: Wait + Abort>(
     rt: &R,
     cache: &Cache<BlockKind, A, B>,
@@ -334,7 +334,7 @@ fn take_some<K: Kind, A: Ledger, B: Ledger, R: Wait + Abort>(
     }
 }
 
-// One hand takes up to 17 cells and gives them back. Where the memory of a page is refused, one of the takes is; where that
+// One hand takes up to 17 cells and gives them back. If the memory of a page is refused, one of the takes is; if that
 // of the new magazine is, the last cell goes home. The answer is how many were taken, and how many slots were still out
 // when all were given back.
 fn spared<A: Ledger, B: Ledger, R: Wait + Abort>(
@@ -447,7 +447,7 @@ fn reap<K: Kind, A: Ledger, B: Ledger, R: Wait>(
     }
 }
 
-// The hands, with the reaper beside them.
+// The hands, and the reaper at the same time.
 fn crew<'a, A: Ledger + Send + Sync, B: Ledger + Send + Sync, R: Threads + Wait + Abort + Sync>(
     rt: &'a R,
     alloc: &'a Global,

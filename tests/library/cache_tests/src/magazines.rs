@@ -37,7 +37,7 @@ fn go_home<K: Kind>(rt: &impl Abort, slabs: &mut Slabs<K>, object: Obj<K, Ready>
     assert!(rt; slabs.give(object.retire()), "an object comes home twice");
 }
 
-// The way by which an object is given back: into the layer, or by the depot's exchange, or home to the slabs where
+// The way by which an object is given back: into the layer, or by the depot's exchange, or home to the slabs if
 // the depot has no empty magazine.
 fn given<K: Kind>(
     rt: &impl Abort,
@@ -59,7 +59,7 @@ fn given<K: Kind>(
     b'G'
 }
 
-// The way by which an object is taken: out of the layer, or by the depot's exchange, or not where the depot has no
+// The way by which an object is taken: out of the layer, or by the depot's exchange, or not if the depot has no
 // full magazine. The object goes home.
 fn taken<K: Kind>(
     rt: &impl Abort,
@@ -117,7 +117,7 @@ fn closed<K: Kind>(rt: &impl Abort, slabs: &mut Slabs<K>, mut depot: Depot<K>, r
     panic!(rt; "a depot has too many magazines");
 }
 
-// A layer of the kind takes this many objects and no more, and gives them again and no more.
+// A layer of the kind takes exactly this many objects, and gives exactly these again.
 fn holds<K: Kind>(rt: &impl Abort, alloc: Global, count: u32) {
     let mut arena = arena_of(rt, alloc, 1);
     let mut slabs = grown::<K>(rt, alloc, &mut arena);

@@ -196,7 +196,7 @@ fn seat_of(rt: &impl Abort, tickets: &Tickets, seats: &mut Vec<TicketSeat>) -> T
 fn tickets_end_at_their_limit(rt: HostRuntime) -> Result<(), AllocError> {
     let (tickets, mut seats) = Tickets::new(rt.alloc(), 3, 1)?;
     let mut seat = seat_of(&rt, &tickets, &mut seats);
-    // 99 stands for None.
+    // 99 means None.
     for want in [0, 1, 2, 99, 99] {
         holds(&rt, tickets.draw(&mut seat).unwrap_or(99) == want);
     }

@@ -45,7 +45,7 @@ fn numbered<A: Ledger, B: Ledger, R: Wait + Abort>(
 }
 
 // This many exchanges of a cell with this thread's number for what is there, and then for that. The number is that of the cell that
-// the thread has at the end, or 0 where it has none.
+// the thread has at the end, or 0 if it has none.
 fn trade<A: Ledger, B: Ledger, C: Ledger, D: Ledger, R: Wait + Abort>(
     rt: &R,
     cache: &Cache<CellKind, A, B>,

@@ -1,8 +1,8 @@
 //! Each public call of vmem_arena, slab_layer, magazine, owners_table and object_cache, made once, and each type with its variants and
 //! fields.
 //!
-//! They are written from the signatures alone, so whoever knows these can read here how a call looks. What a call that allocates takes
-//! first, after the runtime, is the allocator. Where the signatures speak of want of memory, a result has the error `AllocError` of std.
+//! They are written only from the signatures, so a reader of these can see here how a call looks. What a call that allocates takes
+//! first, after the runtime, is the allocator. If the signatures speak of want of memory, a result has the error `AllocError` of std.
 
 use crate::facts::holds;
 use magazine::{Depot, Layer, Magazine};

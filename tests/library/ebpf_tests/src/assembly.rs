@@ -10,7 +10,7 @@ use std::alloc::Global;
 use std::process::Abort;
 use std::test::*;
 
-// The bytes of a program, and texts of it: ` / ` stands for the end of a line.
+// The bytes of a program, and texts of it: ` / ` is the end of a line.
 const TEXTS: &str = "\
 # spaces, tabs and commas separate words
 b7000000070000009500000000000000 | mov64 r0, 7 / exit

@@ -1,4 +1,4 @@
-//! What is known before a slot, in words written down by hand, and beside it why programs are refused.
+//! What is known before a slot, in words written down by hand, and why programs are refused.
 
 mod sentences;
 

@@ -101,7 +101,7 @@ fn bytes_of_slots(rt: &impl Abort, alloc: Global, table: &str) -> Vec<u8> {
     bytes
 }
 
-// The line of the instruction that begins at a slot, or `-` where none does.
+// The line of the instruction that begins at a slot, or `-` if none does.
 fn line_at(alloc: Global, program: &Program, slot: usize) -> Result<String, AllocError> {
     match program.at(slot) {
         Some(insn) => line(alloc, slot, insn),

@@ -1,7 +1,7 @@
 //! Tests of the eBPF crates, a module for each.
 //!
 //! They come after all of them and call only what a user of those crates can call, so that no crate is proved again with
-//! tests of its own. Where there are many cases they are rows of one text, which one loop reads, so a case more costs
+//! tests of its own. If there are many cases they are rows of one text, which one loop reads, so a case more costs
 //! nothing: a row with a name says what it shows, and a line that begins with `#` says it of the rows below. What the built
 //! program shows is tested by tests/commands instead. `surface` makes each public call of the crates up to ebpf_script once, so it is the
 //! module to read first.

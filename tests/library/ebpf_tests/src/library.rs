@@ -12,7 +12,7 @@ use ebpf_verify::verify::verify;
 use std::alloc::Global;
 use std::test::*;
 
-// How far a run is after as many instructions as its program has; none where the program is refused.
+// How far a run is after as many instructions as its program has; none if the program is refused.
 fn status_at_the_end(alloc: Global, bytes: &[u8], context: Context) -> Option<Status> {
     let program = decode(alloc, bytes).ok()?;
     let flowed = check(alloc, program).ok()?;

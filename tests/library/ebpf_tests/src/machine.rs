@@ -42,7 +42,7 @@ fn is_written(rt: &impl Abort, alloc: Global, program: Vec<u8>, want: &str) {
     holds(rt, want, is_done && written.as_slice() == want.as_bytes());
 }
 
-// The number that the immediate of these low bits stands for.
+// The number that the immediate of these low bits means.
 fn immediate(width: Width, b: u64) -> u64 {
     match width {
         Width::W32 => low_half(b) as u64,

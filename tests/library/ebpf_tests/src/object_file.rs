@@ -33,7 +33,7 @@ two | largest_ | the file has no function of that name; it has checksum, largest
 call | outside | the file has no function of that name; it has twice, entry, far";
 
 // What is changed in the object two: an offset and the bytes that are written there, with a comma between several; and why there
-// is then no function largest, or no only one where the row begins with `-`.
+// is then no function largest, or no only one if the row begins with `-`.
 const DAMAGED: &str = "\
 0 00 | the file is not an ELF file
 4 01 | the file is not a 64-bit little-endian ELF file: compile with -target bpfel

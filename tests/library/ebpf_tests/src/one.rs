@@ -1,4 +1,4 @@
-//! What `one` and `explain` say where a caller asks for more held objects than the command line lets through, and what the
+//! What `one` and `explain` say if a caller asks for more held objects than the command line lets through, and what the
 //! commands over one program say of raw bytes.
 
 use crate::programs::{asked, holds};

@@ -10,7 +10,7 @@ use ebpf_verify::decl::Decl;
 use ebpf_verify::verify::verify;
 use std::test::*;
 
-// r0 = the low half of -1, r0 += -1, to slot 4 where r0 is 5, r0 in the order of the network, r1 = 7 in two slots, r0 to the last word
+// r0 = the low half of -1, r0 += -1, to slot 4 if r0 is 5, r0 in the order of the network, r1 = 7 in two slots, r0 to the last word
 // of the stack, its low half to r3, emit, exit
 const SLOTS: &str =
     "b4000000ffffffff07000000ffffffff1500010005000000dc00000010000000180100000700000000000000000000007b0af8ff\

@@ -89,7 +89,7 @@ fn a_script_has_its_programs_events_and_jobs(rt: HostRuntime) {
     is_text(&rt, "a script of jobs", text.as_str(), JOBS_SAID);
 }
 
-// A word, the bytes that it stands for as hex, and those that it stands for where a lone `-` is none.
+// A word, the bytes that it means as hex, and those that it means if a lone `-` is none.
 const HEX: &str = "\
 0aFF Some([10, 255]) Some([10, 255])
 0 None None

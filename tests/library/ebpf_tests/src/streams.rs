@@ -19,7 +19,7 @@ use std::test::*;
 use std::thread::Threads;
 
 // Gives a text and then a byte over and over, up to this many bytes a call. Then it ends, or fails for a cause. One that
-// stumbles fails at its first call alone.
+// stumbles fails only at its first call.
 #[derive(Drop)]
 struct Source<'a> {
     text: &'a [u8],
@@ -55,8 +55,8 @@ impl Read for Source<'_> {
     }
 }
 
-// Takes up to this many bytes a call, up to its room. Then it takes nothing, or fails. One that stumbles fails at its first
-// call alone. It knows whether all that it took was flushed.
+// Takes up to this many bytes a call, up to its room. Then it takes nothing, or fails. One that stumbles fails only at its first
+// call. It knows whether all that it took was flushed.
 #[derive(Drop)]
 struct Sink {
     got: Vec<u8>,
@@ -257,7 +257,7 @@ fn a_write_or_a_flush_that_fails_once_is_reported(rt: HostRuntime) {
 }
 
 // Calls a command on its input with such a reader and writer, and checks that as much of the text comes as there is room
-// for, and that the command says so where that isn't all.
+// for, and that the command says so if that isn't all.
 fn writes_to<R: Abort + Threads + Wait + Sync>(
     rt: &R,
     alloc: Global,
@@ -293,7 +293,7 @@ fn a_reader_gives_what_it_can(rt: HostRuntime) {
     }
 }
 
-// Calls a command with room for this many bytes, where the writer then fails or takes nothing.
+// Calls a command with room for this many bytes, after which the writer fails or takes nothing.
 fn writes_with_room<R: Abort + Threads + Wait + Sync>(
     rt: &R,
     alloc: Global,
@@ -358,7 +358,7 @@ fn a_long_input_is_not_read_to_its_end(rt: HostRuntime) {
     }
 }
 
-// Gives a command 64 of a byte. A script may have comments and blank lines alone.
+// Gives a command 64 of a byte. A script may have only comments and blank lines.
 fn is_answered<R: Abort + Threads + Wait + Sync>(rt: &R, alloc: Global, command: &str, byte: u8) {
     let mut reader = flood(byte, 64, None);
     let mut writer = ample(alloc);

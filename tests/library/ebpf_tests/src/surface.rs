@@ -1,8 +1,8 @@
 //! Each public call of the crates from bytes to scripts, made once, and each type with its variants and fields: first of ebpf_insn,
 //! ebpf_text, ebpf_flow and ebpf_range, then of ebpf_state, ebpf_verify, ebpf_machine, ebpf_core and ebpf_script.
 //!
-//! They are written from the signatures alone, so whoever knows these can read here how a call looks. What a call that allocates takes
-//! first is the allocator. Where the signatures speak of want of memory, a result has the error `AllocError` of std.
+//! They are written only from the signatures, so a reader of these can see here how a call looks. What a call that allocates takes
+//! first is the allocator. If the signatures speak of want of memory, a result has the error `AllocError` of std.
 
 use crate::programs::{bytes_of, column, holds, is_text};
 use crate::things::{Thing, Things};

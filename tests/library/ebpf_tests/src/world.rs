@@ -235,7 +235,7 @@ program low 0 0 b700000007000000070000000100000007000000010000000700000001000000
 program high 0 0 b7000000640000000700000002000000070000000200000007000000020000009500000000000000
 ";
 
-// The program that an order has at a place: the first where the bit is set, else the second.
+// The program that an order has at a place: the first if the bit is set, otherwise the second.
 fn program_at(order: u16, place: u32) -> usize {
     usize::from((order >> (place % 16)) & 1 == 0)
 }

@@ -1,4 +1,4 @@
-//! What a job reports, beside its program run alone.
+//! What a job reports, compared with its program run alone.
 
 use crate::store::{Given, Store, Sums};
 use ebpf_machine::report::{Reply, Report};

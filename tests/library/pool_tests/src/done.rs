@@ -100,7 +100,7 @@ fn add(counts: &mut [u64; 3], more: &[u64; 3]) {
     }
 }
 
-// That the totals are these sums: of each kind, where no other seat has a slot, and otherwise over all kinds.
+// That the totals are these sums: of each kind, if no other seat has a slot, and otherwise over all kinds.
 fn add_up(rt: &impl Abort, outcome: &Outcome, sums: &Sums, claimed: u32) {
     let clashes = outcome.clashes;
     holds(rt, "none clashed", claimed > 0 || clashes == 0);

@@ -52,7 +52,7 @@ impl Watch {
             && self.passes.load(Ordering::SeqCst) >= hold.passes
     }
 
-    // Waits where the job or the pass of this number is to wait.
+    // Waits if the job or the pass of this number is to wait.
     fn wait(&self, is_pass: bool, number: u64) {
         for hold in &self.holds {
             if hold.is_pass == is_pass && hold.number == number && !self.is_in_time(hold) {

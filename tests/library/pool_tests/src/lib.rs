@@ -1,9 +1,9 @@
 //! Tests of the pool of workers, as its user calls it.
 //!
-//! What `run_jobs` promises is proved where it is. Tried here is what no contract says. Jobs are done where memory is there, by workers
+//! What `run_jobs` promises is proved where it is. Tried here is what no contract says. Jobs are done if there is memory, by workers
 //! that really run side by side. What a job leaves on a shelf is taken by another once, and whole. The promises mean the numbers that a
-//! person expects. One fault of several is reported, and every want of memory is answered. Where there are many cases they are rows of one text. What a job reports is compared with its program run
-//! alone, over a store of the tests' own.
+//! person expects. One fault of several is reported, and every want of memory is answered. If there are many cases they are rows of one
+//! text. What a job reports is compared with its program run alone, over a store of the tests' own.
 //!
 //! `surface` makes each public call once, so it is the module to read first.
 //!

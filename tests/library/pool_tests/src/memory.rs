@@ -9,7 +9,7 @@ use std::sync::Wait;
 use std::thread::Threads;
 use worker_pool::NoGate;
 
-// Whatever is refused, the jobs of a setting are done and add up, or want of memory is reported, with all seats back.
+// No matter what is refused, the jobs of a setting are done and add up, or want of memory is reported, with all seats back.
 fn is_answered<R: Threads + Wait + Abort + Print + Sync>(rt: &R, alloc: Global, setting: &str) {
     let setting = setting_of(setting);
     let Ok(programs) = programs_for(alloc, setting.letters) else {

@@ -61,7 +61,7 @@ fn rows_are_reported(rt: HostRuntime) -> Result<(), AllocError> {
     Ok(())
 }
 
-// Jobs of all programs, with few passes of the reaper beside them: each report is compared with its program run alone.
+// Jobs of all programs, with few passes of the reaper meanwhile: each report is compared with its program run alone.
 fn mixed<R: Threads + Wait + Abort + Sync>(
     rt: &R,
     alloc: Global,

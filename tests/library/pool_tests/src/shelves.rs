@@ -131,7 +131,7 @@ fn is_handed_over(
     Ok(())
 }
 
-// A row: what it shows; the setting of its jobs, whose programs are of this many kinds, in turn; that many; and the totals, where
+// A row: what it shows; the setting of its jobs, whose programs are of this many kinds, in turn; that many; and the totals, if
 // they are the same each time.
 const ROWS: &str = "\
 eight workers leave cells on a shelf | 8 16 100 0 4000 j | 1 | 4000/4000/0 0/0/0 0/0/0 clashes 0 shelf 0 4000/3999/1

@@ -43,7 +43,7 @@ pub(crate) struct Given {
     pub(crate) taken: Vec<u8>,
 }
 
-// How many calls had each answer. Contracts alone count them, by a part of the ledger each.
+// How many calls had each answer. Only contracts count them, by a part of the ledger each.
 #[derive(Drop)]
 pub(crate) struct Tally<L: Ledger> {
     grants: Share<L>,
@@ -92,7 +92,7 @@ impl<L: Ledger> Store<L> {
         }
     }
 
-    // What it granted and refused, and what went onto shelves and came off; none where memory ran out.
+    // What it granted and refused, and what went onto shelves and came off; none if memory ran out.
     pub(crate) fn sums(&self) -> Option<Sums> {
         if self.is_short { None } else { Some(self.sums) }
     }
@@ -125,7 +125,7 @@ impl<L: Ledger> Store<L> {
         answer
     }
 
-    // An object of a kind in a fresh slot, with these bytes; none where memory runs out.
+    // An object of a kind in a fresh slot, with these bytes; none if memory runs out.
     fn put_out(&mut self, kind: u8, bytes: Vec<u8>) -> Option<Object> {
         let slot = self.table.len() as u32;
         let entry = Entry { kind, is_out: true };
@@ -136,7 +136,7 @@ impl<L: Ledger> Store<L> {
         Some(Object { slot, kind, bytes })
     }
 
-    // An object of a kind in a fresh slot, with its image; none where memory runs out.
+    // An object of a kind in a fresh slot, with its image; none if memory runs out.
     fn grant(&mut self, kind: u8) -> Option<Object> {
         let row = row_of(kind);
         let Ok(bytes) = vec![in self.alloc; row.fill; row.size as usize] else {
@@ -146,7 +146,7 @@ impl<L: Ledger> Store<L> {
         self.put_out(kind, bytes)
     }
 
-    // An object that comes off the shelf of a kind, in a fresh slot; none where memory runs out.
+    // An object that comes off the shelf of a kind, in a fresh slot; none if memory runs out.
     fn fetch(&mut self, kind: u8) -> Option<Object> {
         let size = row_of(kind).size as usize;
         let Ok(bytes) = bytes_at(self.alloc, &self.given.taken, self.place, size) else {

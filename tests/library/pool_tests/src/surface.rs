@@ -1,6 +1,6 @@
 //! Each public call of worker_pool, made once, and each type with its variants and fields.
 //!
-//! They are written from the signatures alone, so whoever knows these can read here how a call looks. What a call that allocates takes
+//! They are written only from the signatures, so a reader of these can see here how a call looks. What a call that allocates takes
 //! first, after the runtime, is the allocator.
 
 use crate::facts::holds;
