@@ -114,7 +114,7 @@ def cases_of(lines):
         try:
             case = case_of(line)
             if case.name in cases:
-                raise ValueError('a name that is there before')
+                raise ValueError('a name that an earlier case has')
         except ValueError as fault:
             raise ValueError(f'{TABLE.name}: line {number}: {fault}')
         cases[case.name] = case

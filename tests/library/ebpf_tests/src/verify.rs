@@ -13,7 +13,7 @@ use std::process::Abort;
 
 // The program of the bytes in hex.
 fn flowed_of(rt: &impl Abort, alloc: Global, digits: &str) -> Flowed {
-    check(alloc, program_of(rt, alloc, digits)).expect(rt, "the flow is at fault")
+    check(alloc, program_of(rt, alloc, digits)).expect(rt, "the flow has a fault")
 }
 
 // What is declared.
