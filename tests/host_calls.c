@@ -370,7 +370,7 @@ static int served(long allocations) {
     return refused;
 }
 
-/* The same of a share, into a handle that holds another program: where it is refused, that program is still there. */
+/* The same of a share, into a handle that holds another program: if it is refused, that program is still there. */
 static int shared(long allocations) {
     ebpf_program other = {0};
     assert(ebpf_machine_new(&machine, 1) == EBPF_DONE && load(EMIT, 1, 0) == EBPF_DONE);

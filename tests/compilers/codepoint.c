@@ -1,4 +1,4 @@
-// The first code point of a text in UTF-8 is emitted: 0, or 1 where there is none, for which U+FFFD is emitted.
+// The first code point of a text in UTF-8 is emitted: 0, or 1 if there is none, for which U+FFFD is emitted.
 //
 // The context is the first 4 bytes of the text. There are many ways to be no UTF-8, and one exit for them.
 //

@@ -1,4 +1,4 @@
-// Runs a program that is compiled for the machine itself: its context is the first word, as hex, and where there is a second word,
+// Runs a program that is compiled for the machine itself: its context is the first word, as hex, and if there is a second word,
 // each call of `new` is answered null. Writes the numbers that it emits, its result, and the most objects that it held, as `one`
 // does.
 #include <stdio.h>

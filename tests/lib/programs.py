@@ -19,6 +19,6 @@ def option(words, name, default):
 
 
 def end_of(text):
-    """How a text of `one` ends; the text is the output where it is not accepted."""
+    """How a text of `one` ends; the text is the output if it is not accepted."""
     found = re.fullmatch(r'(accepted) \d+\n((?:emit \d+\n)*)exit (\d+) executed (\d+) peak (\d+)\n', text)
     return End(*found.groups()) if found else End(text.split(' ')[0], text, '', '', '')

@@ -128,7 +128,7 @@ def passes(test):
 
 
 def chosen(names):
-    """The tests of these names, in the order of the table; LookupError where there is none of a name."""
+    """The tests of these names, in the order of the table; LookupError if there is none of a name."""
     known = {test.name for test in TESTS} | {'program'}
     for name in names:
         if name not in known:

@@ -317,7 +317,7 @@ fn a_closed_cache_tells_what_strayed_and_gives_its_pages_back(rt: HostRuntime) {
     );
 }
 
-// Takes this many objects, or fewer where memory is refused, which is reported as such.
+// Takes this many objects, or fewer if memory is refused, which is reported as such.
 fn take_some<K: Kind, A: Ledger, B: Ledger, R: Wait + Abort>(
     rt: &R,
     cache: &Cache<K, A, B>,
@@ -357,7 +357,7 @@ fn spared<A: Ledger, B: Ledger, R: Wait + Abort>(
     (taken, given)
 }
 
-// The same with a cache of its own, where there is memory for one.
+// The same with a cache of its own, if there is memory for one.
 fn sparing<A: Ledger, B: Ledger, R: Wait + Abort + Print>(
     rt: &R,
     alloc: Global,

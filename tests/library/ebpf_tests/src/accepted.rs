@@ -18,7 +18,7 @@ pub(crate) fn script_of(rt: &impl Abort, alloc: Global, dialect: Dialect, text: 
     }
 }
 
-// A program of a script, accepted; `None` where memory is refused.
+// A program of a script, accepted; `None` if memory is refused.
 pub(crate) fn accepted_once(
     rt: &impl Abort,
     alloc: Global,

@@ -16,7 +16,7 @@ use std::test::*;
 
 const EXIT: u8 = 0x95;
 
-// What is added to the opcode of an operation or a branch on an immediate where it is on a register.
+// What is added to the opcode of an operation or a branch on an immediate if it is on a register.
 const REGISTER: u8 = 8;
 
 // Writes a slot: its opcode, its registers, the low byte of its offset, and its immediate.

@@ -51,7 +51,7 @@ fn judge_again<R: Abort + Print>(rt: &R, alloc: Global, script: &Script) -> Veri
     verified
 }
 
-// An event, and the same where that is refused memory: the world is as it was then.
+// An event, and the same event that is refused memory: the world is as it was then.
 fn apply_again<R: Abort + Print>(rt: &R, world: &mut World<'_>, event: Event, same: Event) {
     let (runs, executed, slots) = (world.runs(), world.executed(0), world.ledger(0).len());
     let Err(fault) = world.apply(event) else {

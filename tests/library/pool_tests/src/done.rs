@@ -159,7 +159,7 @@ fn reports_text(alloc: Global, outcome: &Outcome) -> Result<String, AllocError> 
     Ok(text)
 }
 
-// The totals of the caches in words, the clashes, what each shelf did that anything was put on, and the strays where there are any.
+// The totals of the caches in words, the clashes, what each shelf did that anything was put on, and the strays if there are any.
 pub(crate) fn totals_text<R>(alloc: Global, outcome: &Outcome<R>) -> Result<String, AllocError> {
     let mut text = String::new(alloc);
     for totals in &outcome.totals {
