@@ -7,3 +7,4 @@ pub mod Json
 pub mod Stops
 pub mod Response
 pub mod Writing
+pub mod Members

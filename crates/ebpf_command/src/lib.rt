@@ -4,7 +4,7 @@
 //! read to an [`answer::Answer`], and [`answer::respond`] reads and writes around it. A text that is too long to be made as a whole is
 //! written in pieces ([`piece::Piece`]).
 //!
-//! To be read in this order: `done`, `input`, `hex_text`, `codes`, `judge`, `text`, `format`, `json`, `output`, `piece`, `answer`.
+//! To be read in this order: `done`, `input`, `hex_text`, `codes`, `judge`, `text`, `format`, `json`, `members`, `output`, `piece`, `answer`.
 #![tactic(auto)]
 
 pub mod answer;
@@ -15,6 +15,7 @@ pub mod hex_text;
 pub mod input;
 pub mod json;
 pub mod judge;
+pub mod members;
 pub mod output;
 pub mod piece;
 pub mod text;

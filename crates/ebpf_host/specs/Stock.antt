@@ -1,6 +1,6 @@
 -- The objects of one kind: the slots of its slabs, and a shelf.
 use Rattle.std.specs.Prelude.{◌≡◌, ◌≢◌, ◌+◌, ◌-◌, ℕ, List, Option, Some, None, IfSome}
-use Rattle.slab_layer.specs.Slots.{Pages, IsOut, Has, AddsPage, out_count}
+use Rattle.slab_layer.specs.Slots.{Pages, IsOut, out_count}
 pub use Rattle.ebpf_machine.specs.World.{Shelved}
 
 -- where its slots are, and what is on its shelf
@@ -46,9 +46,3 @@ pub record Exchanges (old new : StockView) (given got : Option Shelved) : Type 0
   pub given_is : new.shelf ≡ given
   pub pages : new.pages ≡ old.pages
   pub out : IfSome got (λ o. IsOut old.pages o.slot)
-
--- slabs have a page more, whose n slots are home
-pub record GrowsBy (old new : Pages) (objects : ℕ) : Type 0 where
-  pub page : ℕ
-  pub not_had : Has old page → ⊥
-  pub added : AddsPage old new page objects

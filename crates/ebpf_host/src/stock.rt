@@ -10,7 +10,7 @@
 
 ghost use Rattle.std.specs.Prelude.{◌≡◌, ◌/◌, ℕ, false, replicate, None, Option, option_map, is_some, IsTrue, IfSome, IfNone};
 ghost use Rattle.slab_layer.specs.Slots.{IsHome, IsOut, out_count};
-ghost use Rattle.ebpf_host.specs.Stock.{IsHeld, Takes, Gives, Exchanges, GrowsBy, shelved_at};
+ghost use Rattle.ebpf_host.specs.Stock.{IsHeld, Takes, Gives, Exchanges, shelved_at};
 
 use slab_layer::{Held, Home, Kind, Obj, Slabs};
 use std::alloc::Global;
@@ -87,9 +87,9 @@ impl<K: Kind> Stock<K> {
         if let Some(object) = self.slabs.take() {
             return Some(object);
         }
-        if !grow(&mut self.slabs, arena) {
+        let Ok(()) = self.slabs.grow_from(arena) else {
             return None;
-        }
+        };
         match self.slabs.take() {
             Some(object) => Some(object),
             None => unreachable!(),
@@ -163,30 +163,5 @@ impl<K: Kind> Stock<K> {
             slabs.give(object.restore().retire());
         }
         slabs.end();
-    }
-}
-
-// Adds a page of the arena to slabs that have no object at home. It answers false where there is none, or where memory for its objects
-// runs out; then the slabs are as they were.
-fn grow<K: Kind>(slabs: &mut Slabs<K>, arena: &mut Arena) -> bool
-    ensures grown { IsTrue result → GrowsBy slabs.old slabs.new (4096 / K.SIZE) }
-    ensures home { IsTrue result → (slot : ℕ) × IsHome slabs.new slot }
-    ensures counted { IsTrue result → out_count slabs.new ≡ out_count slabs.old }
-    ensures unchanged { result ≡ false → slabs.new ≡ slabs.old }
-    ensures pages { arena.new.pages ≡ arena.old.pages }
-{
-    let Ok(span) = arena.take(1) else {
-        return false;
-    };
-    if slabs.has(span.first()) {
-        arena.give(span);
-        return false;
-    }
-    match slabs.grow(span) {
-        Ok(()) => true,
-        Err(back) => {
-            arena.give(back);
-            false
-        }
     }
 }

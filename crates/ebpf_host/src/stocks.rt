@@ -8,7 +8,7 @@ ghost use Rattle.ebpf_host.specs.Stock.{Exchanges, Gives, Takes};
 ghost use Rattle.ebpf_host.specs.Stocks.{Holds, OthersStay, as_shelved, stock_of};
 
 use crate::stock::{Counts, Stock};
-use ebpf_object::{Object, block, cell, record};
+use ebpf_object::{KindName, Object, Offer, kind_named, offer};
 use slab_layer::{BlockKind, CellKind, Kind, RecordKind};
 use std::alloc::Global;
 use vmem_arena::{Arena, MAX_PAGES};
@@ -61,20 +61,10 @@ impl Stocks {
             blocks,
             ..
         } = self;
-        match kind {
-            0 => match cells.take(arena) {
-                Some(object) => Some(Object::Cell(object)),
-                None => None,
-            },
-            1 => match records.take(arena) {
-                Some(object) => Some(Object::Record(object)),
-                None => None,
-            },
-            2 => match blocks.take(arena) {
-                Some(object) => Some(Object::Block(object)),
-                None => None,
-            },
-            _ => unreachable!(),
+        match kind_named(kind) {
+            KindName::Cell => cells.take(arena).map(Object::Cell),
+            KindName::Record => records.take(arena).map(Object::Record),
+            KindName::Block => blocks.take(arena).map(Object::Block),
         }
     }
 
@@ -101,20 +91,10 @@ impl Stocks {
         ensures others { OthersStay self.old self.new shelf }
         ensures pages { self.new.arena.pages ≡ self.old.arena.pages }
     {
-        match shelf {
-            0 => match self.cells.swap(cell(given)) {
-                Some(object) => Some(Object::Cell(object)),
-                None => None,
-            },
-            1 => match self.records.swap(record(given)) {
-                Some(object) => Some(Object::Record(object)),
-                None => None,
-            },
-            2 => match self.blocks.swap(block(given)) {
-                Some(object) => Some(Object::Block(object)),
-                None => None,
-            },
-            _ => unreachable!(),
+        match offer(shelf, given) {
+            Offer::Cells(given) => self.cells.swap(given).map(Object::Cell),
+            Offer::Records(given) => self.records.swap(given).map(Object::Record),
+            Offer::Blocks(given) => self.blocks.swap(given).map(Object::Block),
         }
     }
 

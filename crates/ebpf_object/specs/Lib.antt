@@ -1,1 +1,3 @@
+pub mod KindName
 pub mod Object
+pub mod Offer

@@ -1,9 +1,8 @@
 //! An object of one of the three kinds.
 
-ghost use Rattle.std.specs.Prelude.{◌≡◌, ◌+◌, ◌≤◌, length, option_map, IfSome};
+ghost use Rattle.std.specs.Prelude.{◌≡◌, ◌+◌, ◌≤◌, length};
 ghost use Rattle.slab_layer.specs.Images.{patched};
 ghost use Rattle.ebpf_object.specs.Object.{bytes_of, kind_of, slot_of};
-ghost use Rattle.ebpf_object.specs.declared.object.Object.TheVariants.{Cell, Record, Block};
 
 use slab_layer::{BlockKind, CellKind, Held, Obj, RecordKind};
 
@@ -38,41 +37,5 @@ impl Object {
             Object::Record(object) => object.write(place, with),
             Object::Block(object) => object.write(place, with),
         }
-    }
-}
-
-/// The cell that an object is, where there is one.
-pub fn cell(object: Option<Object>) -> Option<Obj<CellKind, Held>>
-    requires { IfSome object (λ o. kind_of o ≡ 0) }
-    ensures { object ≡ option_map Cell result }
-{
-    match object {
-        None => None,
-        Some(Object::Cell(cell)) => Some(cell),
-        Some(_) => unreachable!(),
-    }
-}
-
-/// The record that an object is, where there is one.
-pub fn record(object: Option<Object>) -> Option<Obj<RecordKind, Held>>
-    requires { IfSome object (λ o. kind_of o ≡ 1) }
-    ensures { object ≡ option_map Record result }
-{
-    match object {
-        None => None,
-        Some(Object::Record(record)) => Some(record),
-        Some(_) => unreachable!(),
-    }
-}
-
-/// The block that an object is, where there is one.
-pub fn block(object: Option<Object>) -> Option<Obj<BlockKind, Held>>
-    requires { IfSome object (λ o. kind_of o ≡ 2) }
-    ensures { object ≡ option_map Block result }
-{
-    match object {
-        None => None,
-        Some(Object::Block(block)) => Some(block),
-        Some(_) => unreachable!(),
     }
 }

@@ -1,4 +1,3 @@
-pub mod Growth
 pub mod Homing
 pub mod HandView
 pub mod CacheView

@@ -18,7 +18,7 @@ ghost use Rattle.slab_layer.specs.Slots.{IsHome, IsOut, Has, Moves, TakesOut, ou
 ghost use Rattle.slab_layer.specs.declared.place.Place.TheVariants.{Out};
 ghost use Rattle.magazine.specs.LayerView.{rounds_of, IsEmpty};
 ghost use Rattle.object_cache.specs.CacheView.{AreHomes};
-ghost use Rattle.object_cache.specs.Growth.{GrowsBy, KeepsOut};
+ghost use Rattle.slab_layer.specs.Growth.{GrowsBy, KeepsOut};
 ghost use Rattle.object_cache.specs.Homing.{SendsHome};
 
 use crate::activity::PageCounts;
@@ -28,7 +28,7 @@ use crate::fault::TakeFault;
 use crate::homing::{give_pages, go_home, unload};
 use crate::part::Refusals;
 use magazine::{Layer, Magazine};
-use slab_layer::{Home, Kind, Obj, Ready, Slabs};
+use slab_layer::{GrowFault, Home, Kind, Obj, Ready, Slabs};
 use std::alloc::Global;
 use std::sync::Wait;
 use std::sync::ledger::{Book, Ledger, Share};
@@ -118,22 +118,13 @@ impl<K: Kind, A: Ledger, B: Ledger> Inner<K, A, B> {
         ensures unchanged { OnErr result ((self.new.slabs ≡ self.old.slabs) × KeepsOut arena.old arena.new) }
         ensures foreign { self.new.foreign ≡ self.old.foreign }
     {
-        let Ok(span) = arena.take(1) else {
-            return Err(TakeFault::NoSpan);
-        };
-        if self.slabs.has(span.first()) {
-            arena.give(span);
-            return Err(TakeFault::NoSpan);
-        }
-        match self.slabs.grow(span) {
+        match self.slabs.grow_from(arena) {
             Ok(()) => {
                 self.pages.take();
                 Ok(())
             }
-            Err(back) => {
-                arena.give(back);
-                Err(TakeFault::NoMemory)
-            }
+            Err(GrowFault::NoPage) => Err(TakeFault::NoSpan),
+            Err(GrowFault::NoMemory) => Err(TakeFault::NoMemory),
         }
     }
 

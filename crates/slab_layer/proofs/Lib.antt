@@ -3,3 +3,4 @@ pub mod Homes
 pub mod Changes
 pub mod Pages
 pub mod Taking
+pub mod Growing

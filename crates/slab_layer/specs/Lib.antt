@@ -4,3 +4,4 @@ pub mod Stacks
 pub mod Slots
 pub mod PartialStack
 pub mod SlabTable
+pub mod Growth

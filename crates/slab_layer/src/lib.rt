@@ -8,11 +8,12 @@
 //! [`Slabs`] are seen from outside as a finite map from slots to home or out. `take` gives an object whose slot
 //! was home, and None only where none is. `give` takes one back and answers false exactly where its slot isn't
 //! out of these slabs. `grow` adds a page's objects, `reap` takes a page away all of whose objects are home.
-//! Only `grow` takes memory.
+//! Only `grow` takes memory; `grow_from` is `grow` by a page of an arena.
 //!
 //! Objects and slabs must be spent: given back, or ended by `end`. They can't be dropped.
 #![tactic(auto)]
 
+mod growth;
 mod kind;
 mod object;
 mod place;
@@ -21,6 +22,7 @@ mod slab;
 mod slab_tables;
 mod slabs;
 
+pub use growth::GrowFault;
 pub use kind::{BlockKind, CellKind, Kind, RecordKind, SLOTS, SLOTS_OF_A_PAGE};
 pub use object::{Held, Home, Obj, Ready, State};
 pub use place::Place;

@@ -14,7 +14,7 @@ use crate::hands::Hands;
 use crate::ledgers::Names;
 use crate::stock::Stock;
 use crate::supply::Supplies;
-use ebpf_object::{Object, block, cell, record};
+use ebpf_object::{KindName, Object, Offer, kind_named, offer};
 use object_cache::ArenaLock;
 use slab_layer::{BlockKind, CellKind, RecordKind};
 use std::sync::Wait;
@@ -68,20 +68,10 @@ impl<'a, L: Names> Stocks<'a, L> {
         ensures taken { IfSome result (λ _. HasMoved kind 1 0 0 0 0 (hands_of self.old) (hands_of self.new)) }
         ensures refused { IfNone result (HasMoved kind 0 0 1 0 0 (hands_of self.old) (hands_of self.new)) }
     {
-        match kind {
-            0 => match self.cells.take(rt, arena) {
-                Some(object) => Some(Object::Cell(object)),
-                None => None,
-            },
-            1 => match self.records.take(rt, arena) {
-                Some(object) => Some(Object::Record(object)),
-                None => None,
-            },
-            2 => match self.blocks.take(rt, arena) {
-                Some(object) => Some(Object::Block(object)),
-                None => None,
-            },
-            _ => unreachable!(),
+        match kind_named(kind) {
+            KindName::Cell => self.cells.take(rt, arena).map(Object::Cell),
+            KindName::Record => self.records.take(rt, arena).map(Object::Record),
+            KindName::Block => self.blocks.take(rt, arena).map(Object::Block),
         }
     }
 
@@ -109,20 +99,10 @@ impl<'a, L: Names> Stocks<'a, L> {
         ensures kind { IfSome result (λ o. kind_of o ≡ shelf) }
         ensures moved { HasMoved shelf 0 0 0 (one_if given) (one_if result) (hands_of self.old) (hands_of self.new) }
     {
-        match shelf {
-            0 => match self.cells.swap(rt, cell(given)) {
-                Some(object) => Some(Object::Cell(object)),
-                None => None,
-            },
-            1 => match self.records.swap(rt, record(given)) {
-                Some(object) => Some(Object::Record(object)),
-                None => None,
-            },
-            2 => match self.blocks.swap(rt, block(given)) {
-                Some(object) => Some(Object::Block(object)),
-                None => None,
-            },
-            _ => unreachable!(),
+        match offer(shelf, given) {
+            Offer::Cells(given) => self.cells.swap(rt, given).map(Object::Cell),
+            Offer::Records(given) => self.records.swap(rt, given).map(Object::Record),
+            Offer::Blocks(given) => self.blocks.swap(rt, given).map(Object::Block),
         }
     }
 }

@@ -2,8 +2,8 @@ use Rattle.std.proofs.Common.{◌≡◌, ◌+◌, ◌*◌, ◌∷◌, refl, sym,
 use Rattle.std.specs.List.Sorted.{IsPermutation}
 use Rattle.vmem_arena.specs.Spans.{pages_of, AreFree}
 use Rattle.slab_layer.proofs.Homes.{row_objects}
-use Rattle.object_cache.proofs.Moving.{came_in, went_back}
-use Rattle.object_cache.proofs.inner.Inner.grow.Goals as goal
+use Rattle.slab_layer.proofs.Growing.{came_in, went_back}
+use Rattle.slab_layer.proofs.slabs.Slabs.grow_from.Goals as goal
 
 pub returns-then-has-clause-unchanged : goal.returns-then-has-clause-unchanged
 returns-then-has-clause-unchanged g c =
