@@ -13,7 +13,7 @@ use Rattle.ebpf_command.specs.Input.{read_of}
 use Rattle.ebpf_command.specs.Response.{Response}
 use Rattle.ebpf_command.specs.Writing.{Responding, AppendsBeginning, Writes, WritesBeginning}
 use Rattle.ebpf_command.proofs.Written.{CutsLong, response_of_read}
-use Rattle.ebpf_script.specs.RunAnswers.{jobs_in, totals_in}
+use Rattle.ebpf_report.specs.RunAnswers.{jobs_in, totals_in}
 use Rattle.ebpf_script.specs.RunText.{outcome_in}
 
 -- ---- the response to what is read is the response to the input

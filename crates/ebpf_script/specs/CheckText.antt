@@ -7,12 +7,12 @@ use Rattle.ebpf_command.specs.Json.{fault_object}
 use Rattle.ebpf_command.specs.Lines.{fault_line}
 use Rattle.ebpf_command.specs.Response.{Response, refused_response}
 use Rattle.ebpf_command.specs.Writing.{Responding}
-use Rattle.ebpf_script.specs.declared.reader.script.Dialect.TheVariants.{Jobs}
-use Rattle.ebpf_script.specs.Explained.{Explained, explained_lines, verdicts_of}
-use Rattle.ebpf_script.specs.ParsedScript.{ParsedScript}
+use Rattle.ebpf_reader.specs.declared.script.Dialect.TheVariants.{Jobs}
+use Rattle.ebpf_reader.specs.ParsedScript.{ParsedScript}
+use Rattle.ebpf_reader.specs.Scripts.{parsed_text}
+use Rattle.ebpf_report.specs.Explained.{Explained, explained_lines, verdicts_of}
+use Rattle.ebpf_report.specs.Verdicts.{AreOn, is_any_refused, answered}
 use Rattle.ebpf_script.specs.ScriptFaults.{script_fault_sentence}
-use Rattle.ebpf_script.specs.Scripts.{parsed_text}
-use Rattle.ebpf_script.specs.Verdicts.{AreOn, is_any_refused, answered}
 
 -- a fault in a format, and its sentence
 abbrev pub fault_in_format : Format → FaultCode → ℕ → (why : List ℕ) → List ℕ

@@ -10,13 +10,13 @@ use Rattle.ebpf_command.specs.declared.format.Format.{Format}
 use Rattle.ebpf_command.specs.declared.format.Format.TheVariants.{Text, Json}
 use Rattle.ebpf_command.specs.Response.{Response, refused_response, clean_response}
 use Rattle.ebpf_command.specs.Writing.{Responding}
-use Rattle.ebpf_script.specs.declared.reader.script.Dialect.TheVariants.{Events}
+use Rattle.ebpf_reader.specs.declared.script.Dialect.TheVariants.{Events}
+use Rattle.ebpf_reader.specs.Scripts.{parsed_text}
+use Rattle.ebpf_report.specs.ScriptText.{Doing, RespondsScript}
+use Rattle.ebpf_report.specs.Verdicts.{verdict_lines, accepted_of}
+use Rattle.ebpf_report.specs.WorldLines.{world_lines}
+use Rattle.ebpf_report.specs.WorldObjects.{world_objects}
 use Rattle.ebpf_script.specs.EventCodes.{apply_name}
-use Rattle.ebpf_script.specs.Scripts.{parsed_text}
-use Rattle.ebpf_script.specs.ScriptText.{Doing, RespondsScript}
-use Rattle.ebpf_script.specs.Verdicts.{verdict_lines, accepted_of}
-use Rattle.ebpf_script.specs.WorldLines.{world_lines}
-use Rattle.ebpf_script.specs.WorldObjects.{world_objects}
 
 -- an event is not legal, for this cause; events count from 0
 abbrev pub stopped_line : ℕ → ApplyCode → List ℕ

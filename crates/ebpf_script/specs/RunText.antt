@@ -10,14 +10,14 @@ use Rattle.ebpf_command.specs.declared.format.Format.{Format}
 use Rattle.ebpf_command.specs.declared.format.Format.TheVariants.{Text, Json}
 use Rattle.ebpf_command.specs.Response.{clean_response}
 use Rattle.ebpf_command.specs.Writing.{Responding}
-use Rattle.ebpf_script.specs.declared.reader.script.Dialect.TheVariants.{Jobs}
-use Rattle.ebpf_script.specs.CoveredLines.{covered_lines}
-use Rattle.ebpf_script.specs.OutcomeLines.{outcome_lines}
-use Rattle.ebpf_script.specs.OutcomeObjects.{outcome_objects}
-use Rattle.ebpf_script.specs.ParsedScript.{Named}
-use Rattle.ebpf_script.specs.Scripts.{parsed_text}
-use Rattle.ebpf_script.specs.ScriptText.{Doing, RespondsScript}
-use Rattle.ebpf_script.specs.Verdicts.{verdict_lines, accepted_of}
+use Rattle.ebpf_reader.specs.declared.script.Dialect.TheVariants.{Jobs}
+use Rattle.ebpf_reader.specs.ParsedScript.{Named}
+use Rattle.ebpf_reader.specs.Scripts.{parsed_text}
+use Rattle.ebpf_report.specs.CoveredLines.{covered_lines}
+use Rattle.ebpf_report.specs.OutcomeLines.{outcome_lines}
+use Rattle.ebpf_report.specs.OutcomeObjects.{outcome_objects}
+use Rattle.ebpf_report.specs.ScriptText.{Doing, RespondsScript}
+use Rattle.ebpf_report.specs.Verdicts.{verdict_lines, accepted_of}
 
 -- what may come of jobs, however many workers do them: an outcome over seats that had noted nothing before
 pub record MayCome (programs : List Subject) (jobs : List Job) (o : JobsOutcome) : Type 0 where

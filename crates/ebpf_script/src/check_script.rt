@@ -3,18 +3,18 @@
 ghost use Rattle.std.specs.Prelude.{◌≡◌, string_bytes, IfOk};
 ghost use Rattle.ebpf_command.specs.Response.{refused_response};
 ghost use Rattle.ebpf_command.specs.Writing.{Performs};
+ghost use Rattle.ebpf_reader.specs.ReadScripts.{parsed_script};
 ghost use Rattle.ebpf_script.specs.CheckText.{RespondsCheck, ChecksScript, fault_in_format, fault_response};
-ghost use Rattle.ebpf_script.specs.ReadScripts.{parsed_script};
 
-use crate::reader::read_script;
-use crate::reader::script::{Dialect, Script, ScriptFault, ScriptStop};
 use crate::script_fault::write_script_fault;
-use crate::verdicts::explained_verdicts_on;
 use ebpf_command::answer::{Answer, respond};
 use ebpf_command::done::{Done, EngineFault};
 use ebpf_command::format::Format;
 use ebpf_command::json::fault_object;
 use ebpf_command::text::fault_line;
+use ebpf_reader::read_script::read_script;
+use ebpf_reader::script::{Dialect, Script, ScriptFault, ScriptStop};
+use ebpf_report::verdicts::explained_verdicts_on;
 use std::alloc::{AllocError, Global};
 use std::io::{Read, Write};
 

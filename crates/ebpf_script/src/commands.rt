@@ -10,12 +10,12 @@ ghost use Rattle.ebpf_script.specs.ReplayText.{RespondsReplay};
 ghost use Rattle.ebpf_script.specs.RunText.{RespondsRun};
 
 use crate::check_script::check_script;
-use crate::meter::NoMeter;
 use crate::replay_script::replay_script;
 use crate::run_ask::RunAsk;
 use crate::run_script::run_script;
 use ebpf_command::done::{Done, EngineFault};
 use ebpf_command::format::Format;
+use ebpf_report::meter::NoMeter;
 use std::alloc::Global;
 use std::io::{Read, Write};
 use std::sync::Wait;

@@ -1,28 +1,28 @@
 //! The command `run`: programs, and jobs that workers do with them.
 
-ghost use Rattle.std.specs.Prelude.{◌≡◌, ◌+◌, ◌≤◌, ◌<◌, ◌^◌, ◌++◌, string_bytes, None, Ok, IfOk, OnOk};
+ghost use Rattle.std.specs.Prelude.{◌≡◌, ◌+◌, ◌≤◌, ◌<◌, ◌^◌, ◌++◌, length, map, string_bytes, None, Ok, IfOk, OnOk};
 ghost use Rattle.ebpf_machine.specs.Kinds.{AreKnown};
 ghost use Rattle.worker_pool.specs.Admission.{pool_fault};
 ghost use Rattle.ebpf_command.specs.Writing.{Performs};
-ghost use Rattle.ebpf_script.specs.ReadScripts.{parsed_script};
-ghost use Rattle.ebpf_script.specs.Runnable.{IsRunnable};
-ghost use Rattle.ebpf_script.specs.RunAnswers.{run_response, totals_in};
+ghost use Rattle.ebpf_reader.specs.ReadScripts.{named, parsed_script};
+ghost use Rattle.ebpf_reader.specs.Runnable.{IsRunnable};
+ghost use Rattle.ebpf_report.specs.CoveredLines.{covered_lines};
+ghost use Rattle.ebpf_report.specs.RunAnswers.{run_response};
+ghost use Rattle.ebpf_report.specs.ScriptText.{RespondsScript};
 ghost use Rattle.ebpf_script.specs.RunText.{RespondsRun, DoesRun, MayCome};
-ghost use Rattle.ebpf_script.specs.ScriptText.{RespondsScript};
 
-use crate::covered_text::write_covered_in;
-use crate::meter::{Meter, Stage};
-use crate::outcome_json::write_total_objects;
-use crate::outcome_text::write_totals;
-use crate::reader::read_script;
-use crate::reader::script::{Dialect, Script, ScriptStop};
-use crate::run_answer::{JobsAnswer, RunAnswer};
 use crate::run_ask::RunAsk;
-use crate::verdicts::verdicts_on;
 use ebpf_command::answer::{Answer, answer_fault_in};
 use ebpf_command::done::{Done, EngineFault};
 use ebpf_command::format::Format;
 use ebpf_command::input::read_input;
+use ebpf_reader::read_script::read_script;
+use ebpf_reader::script::{Dialect, Programs, Script, ScriptStop};
+use ebpf_report::covered_text::write_covered;
+use ebpf_report::meter::{Meter, Stage};
+use ebpf_report::run_answer::{JobsAnswer, RunAnswer, write_totals_in};
+use ebpf_report::verdicts::verdicts_on;
+use ebpf_verify::verified::Verified;
 use owners_table::owners::Owners;
 use std::alloc::{AllocError, Global};
 use std::io::{Read, Write};
@@ -140,18 +140,25 @@ fn answer_script<R: Threads + Wait + Sync, M: Meter>(
     })
 }
 
-// Writes what an outcome says of the caches and the shelves.
-fn write_totals_in(
+// Writes after a text what the jobs of each program executed, where that is asked for. It fails only where memory runs out, or a count
+// would not fit 64 bits.
+fn write_covered_in(
+    alloc: Global,
     text: &mut String,
-    format: Format,
-    outcome: &Outcome<PackedReports>,
+    ask: RunAsk,
+    programs: &Programs,
+    accepted: &[Verified],
+    jobs: &Jobs,
+    reports: &PackedReports,
 ) -> Result<(), AllocError>
-    ensures { OnOk result (string_bytes text.new ≡ string_bytes text.old ++ totals_in format outcome.now) }
+    requires known { AreKnown accepted.now }
+    requires all { length reports.now ≡ length jobs.now }
+    ensures { OnOk result (string_bytes text.new ≡ string_bytes text.old ++ covered_lines ask.covered ask.format (map named programs.now.entries) accepted.now jobs.now reports.now) }
 {
-    match format {
-        Format::Text => write_totals(text, &outcome.totals, &outcome.shelves),
-        Format::Json => write_total_objects(text, &outcome.totals, &outcome.shelves),
+    if !ask.covered {
+        return Ok(());
     }
+    write_covered(alloc, text, ask.format, programs, accepted, jobs, reports)
 }
 
 // What comes of jobs that can be done.

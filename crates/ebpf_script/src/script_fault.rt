@@ -3,8 +3,8 @@
 ghost use Rattle.std.specs.Prelude.{◌≡◌, ◌<◌, ◌++◌, map, take, string_bytes, OnOk};
 ghost use Rattle.ebpf_script.specs.ScriptFaults.{shown_byte, shown_line, expected, line_sentence, numbered_line, script_fault_sentence};
 
-use crate::reader::script::ScriptFault;
 use ebpf_command::done::FaultCode;
+use ebpf_reader::script::ScriptFault;
 use std::alloc::AllocError;
 
 // How many bytes of a line are shown.

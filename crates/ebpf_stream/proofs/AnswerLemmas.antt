@@ -9,8 +9,8 @@ use Rattle.ebpf_host.specs.Reports.{IsCutOff, IsReportWithin}
 use Rattle.worker_pool.specs.declared.jobs.Job.{Job}
 use Rattle.ebpf_command.specs.declared.done.FaultCode.{FaultCode}
 use Rattle.ebpf_command.specs.Json.{fault_in}
-use Rattle.ebpf_script.specs.JobLines.{job_of, stream_shape}
-use Rattle.ebpf_script.specs.Words.{words}
+use Rattle.ebpf_reader.specs.JobLines.{job_of, stream_shape}
+use Rattle.ebpf_reader.specs.Words.{words}
 use Rattle.ebpf_stream.specs.Answering.{Setting, Position, IsAnswered, IsDone, stream_fault}
 
 pub answered_as : (s : Setting) (line : List ℕ) (job : Option Job) (a b : Position) (text : List ℕ) → stream_fault s.parsed line ≡ None

@@ -6,8 +6,8 @@ use Rattle.std.proofs.lemmas.List.{take_all, take-append-le, take-take}
 use Rattle.std.proofs.lemmas.List.Splits.{slice_split_at, slice_split_none}
 use Rattle.std.proofs.Math.Seq.{take-append_seam}
 use Rattle.ebpf_command.specs.declared.done.FaultCode.TheVariants.{InputTooLong}
-use Rattle.ebpf_script.specs.ParsedScript.{ParsedScript}
-use Rattle.ebpf_script.specs.ScriptLines.{script_lines}
+use Rattle.ebpf_reader.specs.ParsedScript.{ParsedScript}
+use Rattle.ebpf_reader.specs.ScriptLines.{script_lines}
 use Rattle.ebpf_stream.specs.Answering.{Setting, Position, IsAnswered, AreAnswered, stream_fault}
 
 -- a line more is answered

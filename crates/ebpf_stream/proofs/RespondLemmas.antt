@@ -10,11 +10,11 @@ use Rattle.ebpf_command.specs.declared.format.Format.{Format}
 use Rattle.ebpf_command.specs.Response.{Response, refused_response}
 use Rattle.ebpf_command.specs.Writing.{Writes, WritesBeginning}
 use Rattle.ebpf_command.proofs.Written.{begun_through, response_through}
-use Rattle.ebpf_script.specs.declared.verdicts.Verdicts.{Verdicts}
-use Rattle.ebpf_script.specs.ParsedScript.{ParsedScript}
-use Rattle.ebpf_script.specs.ScriptText.{Doing, RespondsScript, RespondsUnless}
-use Rattle.ebpf_script.specs.Verdicts.{verdict_lines}
-use Rattle.ebpf_script.specs.VerdictsKept.{AreKept}
+use Rattle.ebpf_reader.specs.ParsedScript.{ParsedScript}
+use Rattle.ebpf_report.specs.declared.verdicts.Verdicts.{Verdicts}
+use Rattle.ebpf_report.specs.ScriptText.{Doing, RespondsScript, RespondsUnless}
+use Rattle.ebpf_report.specs.Verdicts.{verdict_lines}
+use Rattle.ebpf_report.specs.VerdictsKept.{AreKept}
 use Rattle.ebpf_stream.specs.Answering.{Setting, Position}
 use Rattle.ebpf_stream.specs.Feeding.{Serves}
 use Rattle.ebpf_stream.specs.Serving.{RespondsTo, RespondsFirstTo, RespondsPartTo, WritesFirstTo}

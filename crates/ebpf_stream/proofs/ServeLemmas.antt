@@ -7,7 +7,7 @@ use Rattle.ebpf_command.specs.declared.done.EngineFault.TheVariants.{Input, Outp
 use Rattle.ebpf_command.specs.Writing.{AppendsBeginning}
 use Rattle.ebpf_command.proofs.Known.{Appends-more}
 use Rattle.ebpf_command.proofs.Sending.{Appends-none, begins, begins_after}
-use Rattle.ebpf_script.specs.ScriptLines.{script_lines}
+use Rattle.ebpf_reader.specs.ScriptLines.{script_lines}
 use Rattle.ebpf_stream.specs.declared.feed.Feed.{Feed}
 use Rattle.ebpf_stream.specs.declared.totals.MachineTotals.{MachineTotals}
 use Rattle.ebpf_stream.specs.Answering.{Setting, Position, IsAnswered, AreAnswered, position_of, start}

@@ -12,11 +12,11 @@ use Rattle.ebpf_command.specs.Json.{fault_in}
 use Rattle.ebpf_command.specs.Response.{Response, refused_response}
 use Rattle.ebpf_command.specs.Writing.{AppendsBeginning, Writes, WritesBeginning}
 use Rattle.ebpf_command.proofs.Written.{begun_through, response_of_read, response_through}
-use Rattle.ebpf_script.specs.declared.reader.script.Dialect.TheVariants.{Setup}
-use Rattle.ebpf_script.specs.ParsedScript.{ParsedScript}
-use Rattle.ebpf_script.specs.Scripts.{parsed_text}
-use Rattle.ebpf_script.specs.ScriptText.{Doing, RespondsScript}
-use Rattle.ebpf_script.proofs.ScriptTextLemmas.{script_cuts}
+use Rattle.ebpf_reader.specs.declared.script.Dialect.TheVariants.{Setup}
+use Rattle.ebpf_reader.specs.ParsedScript.{ParsedScript}
+use Rattle.ebpf_reader.specs.Scripts.{parsed_text}
+use Rattle.ebpf_report.specs.ScriptText.{Doing, RespondsScript}
+use Rattle.ebpf_report.proofs.ScriptTextLemmas.{script_cuts}
 use Rattle.ebpf_stream.specs.Serving.{RespondsTo, RespondsPartTo, WritesFirst, WritesFirstTo, WritesPart, WritesStream}
 use Rattle.ebpf_stream.specs.Streaming.{DoesStream, DoesFirst, RespondsPart, RespondsStream}
 

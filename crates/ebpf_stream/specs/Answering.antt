@@ -12,11 +12,11 @@ use Rattle.ebpf_command.specs.declared.done.FaultCode.TheVariants.{InputTooLong}
 use Rattle.ebpf_command.specs.declared.format.Format.{Format}
 use Rattle.ebpf_command.specs.declared.format.Format.TheVariants.{Text, Json}
 use Rattle.ebpf_command.specs.Json.{fault_in}
-use Rattle.ebpf_script.specs.JobLines.{job_line_fault, job_of, stream_shape}
-use Rattle.ebpf_script.specs.OutcomeLines.{report_lines}
-use Rattle.ebpf_script.specs.OutcomeObjects.{job_object}
-use Rattle.ebpf_script.specs.ParsedScript.{ParsedScript}
-use Rattle.ebpf_script.specs.Words.{words}
+use Rattle.ebpf_reader.specs.JobLines.{job_line_fault, job_of, stream_shape}
+use Rattle.ebpf_reader.specs.ParsedScript.{ParsedScript}
+use Rattle.ebpf_reader.specs.Words.{words}
+use Rattle.ebpf_report.specs.OutcomeLines.{report_lines}
+use Rattle.ebpf_report.specs.OutcomeObjects.{job_object}
 use Rattle.ebpf_stream.specs.declared.answers.Answers.{Answers}
 
 -- what jobs are done with: the format of the answers, a script, and its programs, which are accepted

@@ -5,8 +5,8 @@ use Rattle.std.specs.Io.KnownBytes.{Appends}
 use Rattle.ebpf_command.specs.declared.done.EngineFault.{EngineFault}
 use Rattle.ebpf_command.specs.declared.done.EngineFault.TheVariants.{Input, Output, NoMemory}
 use Rattle.ebpf_command.specs.Writing.{AppendsBeginning, Sends}
-use Rattle.ebpf_script.specs.ReadScripts.{parsed_script}
-use Rattle.ebpf_script.specs.ScriptLines.{script_lines}
+use Rattle.ebpf_reader.specs.ReadScripts.{parsed_script}
+use Rattle.ebpf_reader.specs.ScriptLines.{script_lines}
 use Rattle.ebpf_stream.specs.declared.feed.Feed.{Feed}
 use Rattle.ebpf_stream.specs.declared.setup.Setup.{Setup}
 use Rattle.ebpf_stream.specs.Answering.{Setting, Position, AreAnswered, position_of, start}

@@ -6,8 +6,8 @@ use Rattle.ebpf_command.specs.declared.done.EngineFault.{EngineFault}
 use Rattle.ebpf_command.specs.declared.format.Format.{Format}
 use Rattle.ebpf_command.specs.Response.{Response}
 use Rattle.ebpf_command.specs.Writing.{Responding, Writes, WritesBeginning}
-use Rattle.ebpf_script.specs.ParsedScript.{ParsedScript}
-use Rattle.ebpf_script.specs.ScriptText.{RespondsScript}
+use Rattle.ebpf_reader.specs.ParsedScript.{ParsedScript}
+use Rattle.ebpf_report.specs.ScriptText.{RespondsScript}
 use Rattle.ebpf_stream.specs.Streaming.{DoesStream, DoesFirst, RespondsStream, RespondsFirst, RespondsPart}
 
 -- the text of a response to the script and the stream is written

@@ -5,12 +5,12 @@ use Rattle.ebpf_command.specs.declared.done.Done.{Done}
 use Rattle.ebpf_command.specs.declared.done.Done.TheVariants.{Clean, Refused}
 use Rattle.ebpf_command.specs.declared.format.Format.{Format}
 use Rattle.ebpf_command.specs.Writing.{Responding}
-use Rattle.ebpf_script.specs.declared.reader.script.Dialect.TheVariants.{Setup}
-use Rattle.ebpf_script.specs.ParsedScript.{ParsedScript}
-use Rattle.ebpf_script.specs.Scripts.{parsed_text}
-use Rattle.ebpf_script.specs.ScriptLines.{script_lines}
-use Rattle.ebpf_script.specs.ScriptText.{Doing, RespondsScript}
-use Rattle.ebpf_script.specs.Verdicts.{Verdict, verdict_lines, accepted_of}
+use Rattle.ebpf_reader.specs.declared.script.Dialect.TheVariants.{Setup}
+use Rattle.ebpf_reader.specs.ParsedScript.{ParsedScript}
+use Rattle.ebpf_reader.specs.Scripts.{parsed_text}
+use Rattle.ebpf_reader.specs.ScriptLines.{script_lines}
+use Rattle.ebpf_report.specs.ScriptText.{Doing, RespondsScript}
+use Rattle.ebpf_report.specs.Verdicts.{Verdict, verdict_lines, accepted_of}
 use Rattle.ebpf_stream.specs.declared.totals.MachineTotals.{MachineTotals}
 use Rattle.ebpf_stream.specs.Answering.{Setting, Position, AreAnswered, start}
 use Rattle.ebpf_stream.specs.Totals.{TellAllLeft, totals_in}

@@ -3,8 +3,8 @@ use Rattle.std.specs.Prelude.{◌≡◌, ℕ, ◌++◌, List, [], ◌∷◌, cod
 use Rattle.std.specs.Int.{from_bool}
 use Rattle.ebpf_command.specs.declared.format.Format.{Format}
 use Rattle.ebpf_command.specs.declared.format.Format.TheVariants.{Text, Json}
-use Rattle.ebpf_script.specs.OutcomeLines.{cache_words, shelf_lines}
-use Rattle.ebpf_script.specs.OutcomeObjects.{cache_members, shelf_objects}
+use Rattle.ebpf_report.specs.OutcomeLines.{cache_words, shelf_lines}
+use Rattle.ebpf_report.specs.OutcomeObjects.{cache_members, shelf_objects}
 use Rattle.ebpf_stream.specs.declared.totals.KindTotals.{KindTotals}
 use Rattle.ebpf_stream.specs.declared.totals.MachineTotals.{MachineTotals}
 

@@ -4,7 +4,7 @@ ghost use Rattle.std.specs.Prelude.{◌≡◌, ◌≢◌, ◌⊎◌, ◌≤◌, 
 ghost use Rattle.ebpf_host.specs.Stocks.{stock_of};
 ghost use Rattle.ebpf_command.specs.Json.{fault_in};
 ghost use Rattle.ebpf_command.specs.declared.done.EngineFault.TheVariants.{Input, Output};
-ghost use Rattle.ebpf_script.specs.ReadScripts.{parsed_script};
+ghost use Rattle.ebpf_reader.specs.ReadScripts.{parsed_script};
 ghost use Rattle.ebpf_stream.specs.Answering.{IsAnswered, IsDone, position_of, report_in, start};
 ghost use Rattle.ebpf_stream.specs.Feeding.{set_up};
 ghost use Rattle.ebpf_stream.specs.Totals.{TellAllLeft, totals_in};
@@ -22,8 +22,8 @@ use ebpf_command::format::Format;
 use ebpf_host::machine::Machine;
 use ebpf_machine::report::Report;
 use ebpf_machine::run::StartFault;
-use ebpf_script::exit_line::ExitLine;
-use ebpf_script::text_line::TextLine;
+use ebpf_report::exit_line::ExitLine;
+use ebpf_report::text_line::TextLine;
 use std::alloc::{AllocError, Global};
 use worker_pool::Job;
 

@@ -1,17 +1,17 @@
 //! What a job did, as it is written.
 
 ghost use Rattle.std.specs.Prelude.{◌≡◌, ◌++◌, string_bytes, OnOk};
-ghost use Rattle.ebpf_script.specs.OutcomeLines.{report_lines};
-ghost use Rattle.ebpf_script.specs.OutcomeObjects.{job_object};
+ghost use Rattle.ebpf_report.specs.OutcomeLines.{report_lines};
+ghost use Rattle.ebpf_report.specs.OutcomeObjects.{job_object};
 ghost use Rattle.ebpf_stream.specs.Answering.{report_in};
 
 use ebpf_command::format::Format;
 use ebpf_command::json::write_numbers;
 use ebpf_machine::report::Report;
-use ebpf_script::exit_line::ExitLine;
-use ebpf_script::outcome_json::write_job_members;
-use ebpf_script::outcome_text::write_output;
-use ebpf_script::text_line::TextLine;
+use ebpf_report::exit_line::ExitLine;
+use ebpf_report::outcome_json::write_job_members;
+use ebpf_report::outcome_text::write_output;
+use ebpf_report::text_line::TextLine;
 use std::alloc::AllocError;
 
 /// Writes what a job did after a text. It fails only where an allocation fails.

@@ -2,14 +2,14 @@
 
 ghost use Rattle.std.specs.Prelude.{◌≡◌, None, Some, IfOk, IfErr, IfSome, length, map, slice_get};
 ghost use Rattle.ebpf_command.specs.Stops.{IsStop};
-ghost use Rattle.ebpf_script.specs.JobLines.{job_of, stream_shape};
-ghost use Rattle.ebpf_script.specs.ReadScripts.{parsed_script};
-ghost use Rattle.ebpf_script.specs.Words.{words};
+ghost use Rattle.ebpf_reader.specs.JobLines.{job_of, stream_shape};
+ghost use Rattle.ebpf_reader.specs.ReadScripts.{parsed_script};
+ghost use Rattle.ebpf_reader.specs.Words.{words};
 ghost use Rattle.ebpf_stream.specs.Answering.{stream_fault};
 
 use ebpf_command::done::{FaultCode, Stop};
-use ebpf_script::reader::job_line::read_job_line;
-use ebpf_script::reader::script::Script;
+use ebpf_reader::job_line::read_job_line;
+use ebpf_reader::script::Script;
 use std::alloc::Global;
 use worker_pool::Job;
 

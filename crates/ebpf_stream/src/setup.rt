@@ -2,11 +2,11 @@
 
 ghost use Rattle.std.specs.Prelude.{◌≡◌, map, IfOk};
 ghost use Rattle.ebpf_machine.specs.Kinds.{AreKnown};
-ghost use Rattle.ebpf_script.specs.ReadScripts.{parsed_script};
+ghost use Rattle.ebpf_reader.specs.ReadScripts.{parsed_script};
 
 use ebpf_command::format::Format;
 use ebpf_host::program::Program;
-use ebpf_script::reader::script::Script;
+use ebpf_reader::script::Script;
 use ebpf_verify::verified::Verified;
 use std::alloc::{AllocError, Global};
 

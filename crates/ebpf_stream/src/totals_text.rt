@@ -5,8 +5,8 @@ ghost use Rattle.ebpf_stream.specs.Totals.{cache_in, caches_in, shelves_in, tota
 
 use crate::totals::{KindTotals, MachineTotals};
 use ebpf_command::format::Format;
-use ebpf_script::outcome_json::{self, write_cache_object};
-use ebpf_script::outcome_text::{self, write_cache_line};
+use ebpf_report::outcome_json::{self, write_cache_object};
+use ebpf_report::outcome_text::{self, write_cache_line};
 use std::alloc::AllocError;
 
 /// Writes totals after a text. It fails only where an allocation fails.

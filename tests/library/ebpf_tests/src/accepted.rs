@@ -3,8 +3,8 @@
 use crate::programs::holds;
 use ebpf_command::judge::{Judged, judge};
 use ebpf_core::event::Event;
-use ebpf_script::reader::read_script;
-use ebpf_script::reader::script::{Dialect, ProgramText, Script};
+use ebpf_reader::read_script::read_script;
+use ebpf_reader::script::{Dialect, ProgramText, Script};
 use ebpf_state::kinds::kinds;
 use ebpf_verify::verified::Verified;
 use std::alloc::Global;

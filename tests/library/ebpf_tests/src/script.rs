@@ -10,7 +10,7 @@ use ebpf_command::hex_text::{hex_bytes, hex_or_dash, hex_or_dash_in};
 use ebpf_command::text::fault_line;
 use ebpf_flow::fault::FlowCode;
 use ebpf_insn::fault::DecodeCode;
-use ebpf_script::reader::script::{Dialect, ProgramText, Script};
+use ebpf_reader::script::{Dialect, ProgramText, Script};
 use ebpf_verify::fault::VerifyCode;
 use std::alloc::{AllocError, Global};
 use std::process::Abort;

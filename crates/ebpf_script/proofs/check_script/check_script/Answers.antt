@@ -1,7 +1,7 @@
 use Rattle.std.proofs.Common.{rules}
 use Rattle.ebpf_command.proofs.Written.{performs_through, response_of_shown}
 use Rattle.ebpf_script.specs.CheckText.{RespondsCheck}
-use Rattle.ebpf_script.proofs.ScriptTextLemmas.{check_cuts}
+use Rattle.ebpf_script.proofs.CheckTextLemmas.{check_cuts}
 use Rattle.ebpf_script.proofs.check_script.check_script.Goals as goal
 
 pub returns : goal.returns

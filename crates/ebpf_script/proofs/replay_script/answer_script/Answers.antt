@@ -1,4 +1,4 @@
-use Rattle.ebpf_script.proofs.VerdictLemmas.{known_kept}
+use Rattle.ebpf_report.proofs.VerdictLemmas.{known_kept}
 use Rattle.ebpf_script.proofs.replay_script.answer_script.Goals as goal
 
 pub answer_events-requires : goal.answer_events-requires

@@ -1,8 +1,8 @@
 use Rattle.std.proofs.Common.{rules}
 use Rattle.ebpf_command.proofs.Written.{performs_through, response_of_shown}
-use Rattle.ebpf_script.specs.declared.reader.script.Dialect.TheVariants.{Events}
+use Rattle.ebpf_reader.specs.declared.script.Dialect.TheVariants.{Events}
+use Rattle.ebpf_report.proofs.ScriptTextLemmas.{script_cuts}
 use Rattle.ebpf_script.specs.ReplayText.{RespondsReplay, DoesReplay}
-use Rattle.ebpf_script.proofs.ScriptTextLemmas.{script_cuts}
 use Rattle.ebpf_script.proofs.replay_script.replay_script.Goals as goal
 
 pub returns : goal.returns

@@ -3,16 +3,16 @@ use Rattle.ebpf_verify.specs.Subject.{Subject}
 use Rattle.worker_pool.specs.Outcomes.{JobsOutcome}
 use Rattle.ebpf_command.specs.declared.format.Format.{Format}
 use Rattle.ebpf_command.specs.Response.{clean_response}
-use Rattle.ebpf_script.specs.declared.verdicts.Verdicts.{Verdicts}
-use Rattle.ebpf_script.specs.ParsedScript.{ParsedScript}
-use Rattle.ebpf_script.specs.ReadScripts.{parsed_script}
-use Rattle.ebpf_script.specs.RunAnswers.{totals_in}
+use Rattle.ebpf_reader.specs.ParsedScript.{ParsedScript}
+use Rattle.ebpf_reader.specs.ReadScripts.{parsed_script}
+use Rattle.ebpf_report.specs.declared.verdicts.Verdicts.{Verdicts}
+use Rattle.ebpf_report.specs.RunAnswers.{totals_in}
+use Rattle.ebpf_report.specs.CoveredLines.{covered_lines}
+use Rattle.ebpf_report.specs.ScriptText.{RespondsScript, RespondsUnless}
+use Rattle.ebpf_report.specs.Verdicts.{verdict_lines}
+use Rattle.ebpf_report.specs.VerdictsKept.{AreKept}
+use Rattle.ebpf_report.proofs.VerdictLemmas.{known_kept, contexts_kept}
 use Rattle.ebpf_script.specs.RunText.{DoesRun, MayCome, outcome_text}
-use Rattle.ebpf_script.specs.CoveredLines.{covered_lines}
-use Rattle.ebpf_script.specs.ScriptText.{RespondsScript, RespondsUnless}
-use Rattle.ebpf_script.specs.Verdicts.{verdict_lines}
-use Rattle.ebpf_script.specs.VerdictsKept.{AreKept}
-use Rattle.ebpf_script.proofs.VerdictLemmas.{known_kept, contexts_kept}
 use Rattle.ebpf_script.proofs.PoolLemmas.{pages_or, none_due}
 use Rattle.ebpf_script.proofs.RunLemmas.{run_text_is}
 use Rattle.ebpf_script.proofs.run_script.answer_script.Goals as goal

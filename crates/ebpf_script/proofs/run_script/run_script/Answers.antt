@@ -1,10 +1,10 @@
 use Rattle.std.proofs.Common.{refl, rules}
 use Rattle.ebpf_command.proofs.Written.{consumed_by, performs_err, performs_nothing}
-use Rattle.ebpf_script.specs.declared.reader.script.Dialect.TheVariants.{Jobs}
-use Rattle.ebpf_script.specs.RunAnswers.{run_response}
+use Rattle.ebpf_reader.specs.declared.script.Dialect.TheVariants.{Jobs}
+use Rattle.ebpf_report.specs.RunAnswers.{run_response}
+use Rattle.ebpf_report.proofs.ScriptTextLemmas.{script_cuts}
 use Rattle.ebpf_script.specs.RunText.{RespondsRun, DoesRun}
 use Rattle.ebpf_script.proofs.RunLemmas.{wrote, wrote_beginning}
-use Rattle.ebpf_script.proofs.ScriptTextLemmas.{script_cuts}
 use Rattle.ebpf_script.proofs.run_script.run_script.Goals as goal
 
 pub returns-in_err-input : goal.returns-in_err-input

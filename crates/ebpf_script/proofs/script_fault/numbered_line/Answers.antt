@@ -1,8 +1,8 @@
 use Rattle.std.proofs.Common.{rules, tests, ◌≡◌, ℕ, ◌-◌, ◌==◌, ◌<◌, ◌≤◌, length, sym, arith}
 use Rattle.std.proofs.lemmas.Iterator.Consumers.{YieldsList-turn, YieldsList-end}
 use Rattle.std.proofs.lemmas.Iterator.Splits.{YieldsList-from_slice_split}
-use Rattle.ebpf_script.specs.ScriptLines.{script_lines}
-use Rattle.ebpf_script.proofs.LinesLemmas.{line_at, line_past}
+use Rattle.ebpf_reader.specs.ScriptLines.{script_lines}
+use Rattle.ebpf_reader.proofs.LinesLemmas.{line_at, line_past}
 use Rattle.ebpf_script.proofs.script_fault.numbered_line.Goals as goal
 
 pub returns-then-place-index : goal.returns-then-place-index

@@ -5,8 +5,8 @@ use Rattle.ebpf_command.specs.declared.done.Done.{Done}
 use Rattle.ebpf_command.specs.declared.done.Done.TheVariants.{Refused}
 use Rattle.ebpf_command.specs.Response.{refused_response}
 use Rattle.ebpf_command.specs.Writing.{Writes}
-use Rattle.ebpf_script.specs.ReadScripts.{parsed_script}
-use Rattle.ebpf_script.proofs.VerdictLemmas.{contexts_kept, known_kept}
+use Rattle.ebpf_reader.specs.ReadScripts.{parsed_script}
+use Rattle.ebpf_report.proofs.VerdictLemmas.{contexts_kept, known_kept}
 use Rattle.ebpf_stream.specs.Answering.{position_of}
 use Rattle.ebpf_stream.specs.Feeding.{Serves}
 use Rattle.ebpf_stream.specs.Serving.{RespondsTo}

@@ -1,10 +1,10 @@
 use Rattle.std.proofs.Common.{◌≡◌, Err, sym, ap, ◌∙◌, subst}
 use Rattle.ebpf_command.specs.Json.{fault_in}
 use Rattle.ebpf_command.specs.Response.{refused_response}
-use Rattle.ebpf_script.specs.declared.reader.script.Dialect.TheVariants.{Setup}
-use Rattle.ebpf_script.specs.ReadScripts.{IsScriptStop, parsed_script}
-use Rattle.ebpf_script.specs.Scripts.{parsed_text}
-use Rattle.ebpf_script.proofs.RunnableLemmas.{text_runnable}
+use Rattle.ebpf_reader.specs.declared.script.Dialect.TheVariants.{Setup}
+use Rattle.ebpf_reader.specs.ReadScripts.{IsScriptStop, parsed_script}
+use Rattle.ebpf_reader.specs.Scripts.{parsed_text}
+use Rattle.ebpf_reader.proofs.RunnableLemmas.{text_runnable}
 use Rattle.ebpf_stream.proofs.TopLemmas.{answer_begun, answer_written, fault_begun, fault_written, if_stopped, stream_begun, stream_stopped, stream_written}
 use Rattle.ebpf_stream.proofs.stream.stream.Goals as goal
 

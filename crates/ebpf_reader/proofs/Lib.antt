@@ -1,0 +1,11 @@
+pub mod NameLemmas
+pub mod NumberLemmas
+pub mod LaneLemmas
+pub mod WordLemmas
+pub mod LinesLeft
+pub mod JobLemmas
+pub mod ScriptLemmas
+pub mod ShapeLemmas
+pub mod LinesLemmas
+pub mod RunnableLemmas
+pub mod JobLineLemmas

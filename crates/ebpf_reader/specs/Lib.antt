@@ -1,0 +1,12 @@
+pub mod ScriptLines
+pub mod Words
+pub mod Numbers
+pub mod Names
+pub mod Shapes
+pub mod ParsedScript
+pub mod LineFaults
+pub mod JobLines
+pub mod Scripts
+pub mod Runnable
+pub mod ReadScripts
+pub mod Again

@@ -1,0 +1,9 @@
+pub mod CountLemmas
+pub mod VerdictLemmas
+pub mod ExplainedLemmas
+pub mod WorldLemmas
+pub mod PutLemmas
+pub mod ScriptTextLemmas
+pub mod TripleLemmas
+pub mod ObjectLemmas
+pub mod CoveredLemmas

@@ -1,0 +1,17 @@
+pub mod Verdicts
+pub mod VerdictsKept
+pub mod Explained
+pub mod ExplainedKept
+pub mod WorldLines
+pub mod OutcomeLines
+pub mod WorldObjects
+pub mod OutcomeObjects
+pub mod Stats
+pub mod StatsLines
+pub mod StatsObjects
+pub mod Tables
+pub mod Timing
+pub mod ScriptText
+pub mod ReportForms
+pub mod CoveredLines
+pub mod RunAnswers

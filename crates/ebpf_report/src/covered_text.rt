@@ -1,0 +1,177 @@
+//! What jobs executed, slot by slot, as it is written.
+
+ghost use Rattle.std.specs.Prelude.{◌≡◌, ◌++◌, length, map, string_bytes, OnOk};
+ghost use Rattle.ebpf_machine.specs.Kinds.{AreKnown};
+ghost use Rattle.ebpf_cover.specs.Covered.{AreLong, executed_at, taken_at};
+ghost use Rattle.std.specs.Option.{option_copied};
+ghost use Rattle.ebpf_reader.specs.ReadScripts.{named};
+ghost use Rattle.ebpf_report.specs.CoveredLines.{counts_members, counts_words, covered_in, covered_line, covered_object, instruction_member, is_branch, programs_from, slots_from, taken_member};
+
+use ebpf_command::format::Format;
+use ebpf_cover::counts::Counts;
+use ebpf_cover::cover::cover;
+use ebpf_insn::insn::Insn;
+use ebpf_insn::program::Program;
+use ebpf_reader::script::Programs;
+use ebpf_text::line::write_insn;
+use ebpf_verify::verified::Verified;
+use std::alloc::{AllocError, Global};
+use worker_pool::{Jobs, PackedReports};
+
+/// Writes after a text what the jobs of each program executed. It fails only where memory runs out, or a count would not fit 64 bits.
+pub fn write_covered(
+    alloc: Global,
+    text: &mut String,
+    format: Format,
+    programs: &Programs,
+    accepted: &[Verified],
+    jobs: &Jobs,
+    reports: &PackedReports,
+) -> Result<(), AllocError>
+    requires known { AreKnown accepted.now }
+    requires all { length reports.now ≡ length jobs.now }
+    ensures { OnOk result (string_bytes text.new ≡ string_bytes text.old ++ programs_from format jobs.now reports.now 0 (map named programs.now.entries) accepted.now) }
+{
+    let all = cover(alloc, accepted, jobs, reports)?;
+    let mut program = 0;
+    for (name, _) in programs.iter() {
+        if program < accepted.len() {
+            let verified = &accepted[program];
+            let counts = &all[program];
+            write_slots(text, format, name.as_str(), verified.program(), counts)?;
+            program += 1;
+        }
+    }
+    Ok(())
+}
+
+// Writes the counts of each slot of a program that has an instruction.
+fn write_slots(
+    text: &mut String,
+    format: Format,
+    name: &str,
+    program: &Program,
+    counts: &Counts,
+) -> Result<(), AllocError>
+    requires { AreLong program.now counts.now }
+    ensures { OnOk result (string_bytes text.new ≡ string_bytes text.old ++ slots_from format name.now (executed_at counts.now) (taken_at counts.now) 0 program.now) }
+{
+    for slot in 0..program.slots() {
+        let executed = counts.executed[slot];
+        let taken = counts.taken[slot];
+        write_slot(text, format, name, slot, executed, taken, program.at(slot))?;
+    }
+    Ok(())
+}
+
+// Writes the counts of a slot, where it has an instruction.
+fn write_slot(
+    text: &mut String,
+    format: Format,
+    name: &str,
+    slot: usize,
+    executed: u64,
+    taken: u64,
+    insn: Option<&Insn>,
+) -> Result<(), AllocError>
+    ensures { OnOk result (string_bytes text.new ≡ string_bytes text.old ++ covered_in format name.now slot executed taken (option_copied insn.entry)) }
+{
+    match (insn, format) {
+        (None, _) => Ok(()),
+        (Some(insn), Format::Text) => write_line(text, name, slot, executed, taken, insn),
+        (Some(insn), Format::Json) => write_object(text, name, slot, executed, taken, insn),
+    }
+}
+
+// Writes the line of a slot.
+fn write_line(
+    text: &mut String,
+    name: &str,
+    slot: usize,
+    executed: u64,
+    taken: u64,
+    insn: &Insn,
+) -> Result<(), AllocError>
+    ensures { OnOk result (string_bytes text.new ≡ string_bytes text.old ++ covered_line name.now slot executed taken insn.now) }
+{
+    write_counts(text, name, slot, executed, is_branch(insn), taken)?;
+    text.push_str(": ")?;
+    write_insn(text, insn)?;
+    text.push_str("\n")
+}
+
+// Writes the object of a slot.
+fn write_object(
+    text: &mut String,
+    name: &str,
+    slot: usize,
+    executed: u64,
+    taken: u64,
+    insn: &Insn,
+) -> Result<(), AllocError>
+    ensures { OnOk result (string_bytes text.new ≡ string_bytes text.old ++ covered_object name.now slot executed taken insn.now) }
+{
+    write_members(text, name, slot, executed)?;
+    write_taken_member(text, is_branch(insn), taken)?;
+    write_instruction_member(text, insn)
+}
+
+fn is_branch(insn: &Insn) -> bool
+    ensures { result ≡ is_branch insn.now }
+{
+    matches!(insn, Insn::Branch { .. })
+}
+
+// Writes the counts of a slot.
+fn write_counts(
+    text: &mut String,
+    name: &str,
+    slot: usize,
+    executed: u64,
+    branch: bool,
+    taken: u64,
+) -> Result<(), AllocError>
+    ensures { OnOk result (string_bytes text.new ≡ string_bytes text.old ++ counts_words name.now slot executed branch taken) }
+{
+    if branch {
+        return write!(
+            text,
+            "covered {name} slot {slot} executed {executed} taken {taken}"
+        );
+    }
+    write!(text, "covered {name} slot {slot} executed {executed}")
+}
+
+// Writes the first members of the object of a slot.
+fn write_members(
+    text: &mut String,
+    name: &str,
+    slot: usize,
+    executed: u64,
+) -> Result<(), AllocError>
+    ensures { OnOk result (string_bytes text.new ≡ string_bytes text.old ++ counts_members name.now slot executed) }
+{
+    write!(
+        text,
+        "{{\"covered\":\"{name}\",\"slot\":{slot},\"executed\":{executed}"
+    )
+}
+
+// Writes how often a branch was taken; nothing of any other instruction.
+fn write_taken_member(text: &mut String, branch: bool, taken: u64) -> Result<(), AllocError>
+    ensures { OnOk result (string_bytes text.new ≡ string_bytes text.old ++ taken_member branch taken) }
+{
+    if !branch {
+        return Ok(());
+    }
+    write!(text, ",\"taken\":{taken}")
+}
+
+// Writes the last member of the object.
+fn write_instruction_member(text: &mut String, insn: &Insn) -> Result<(), AllocError>
+    ensures { OnOk result (string_bytes text.new ≡ string_bytes text.old ++ instruction_member insn.now) }
+{
+    text.push_str(",\"instruction\":\"")?;
+    write_insn(text, insn)?;
+    text.push_str("\"}\n")
+}

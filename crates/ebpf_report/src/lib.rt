@@ -1,0 +1,28 @@
+//! The texts of what was done over scripts, as lines and as JSON objects: verdicts on programs, a world, the outcome of jobs, what they
+//! executed, and the table of `--stats`.
+//!
+//! *The idea.* No command is here. Each function writes a text that a definition gives to the byte, so commands that report alike
+//! use the same one: `check`, `replay`, `run` and `stream` have one way to write a verdict, and `run` and `stream` one for a job. `verdicts`
+//! also judges, since the verdicts of a script are judged and written in one pass over its programs.
+//!
+//! To be read in this order: `verdict_text`, `verdicts`, `world_text`, `text_line`, `world_json`, `exit_line`, `report_form`,
+//! `outcome_text`, `outcome_json`, `run_answer`, `covered_text`, `stats`, `outcome_stats`, `meter`, `stats_text`, `stats_json`, `watch`.
+#![tactic(auto)]
+
+pub mod covered_text;
+pub mod exit_line;
+pub mod meter;
+pub mod outcome_json;
+mod outcome_stats;
+pub mod outcome_text;
+mod report_form;
+pub mod run_answer;
+pub mod stats;
+mod stats_json;
+mod stats_text;
+pub mod text_line;
+mod verdict_text;
+pub mod verdicts;
+pub mod watch;
+pub mod world_json;
+pub mod world_text;

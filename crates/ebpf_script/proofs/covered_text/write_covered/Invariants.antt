@@ -1,9 +1,0 @@
-use Rattle.std.proofs.Common.{◌≡◌, ◌++◌, drop, map, string_bytes}
-use Rattle.ebpf_script.specs.CoveredLines.{programs_from}
-use Rattle.ebpf_script.specs.ReadScripts.{named}
-use Rattle.ebpf_script.proofs.covered_text.write_covered.Given as goal
-
-abbrev pub invariant-loop-name : goal.invariant-loop-name
-invariant-loop-name l =
-    string_bytes l.text ++ programs_from l.fn.format l.fn.jobs l.fn.reports l.program (map named l.name-iterator) (drop l.program l.fn.accepted)
-    ≡ string_bytes l.fn.text ++ programs_from l.fn.format l.fn.jobs l.fn.reports 0 (map named l.programs.entries) l.fn.accepted

@@ -1,9 +1,0 @@
-use Rattle.std.proofs.Common.{◌≤◌, ◌-◌, length, take}
-use Rattle.ebpf_script.specs.Words.{IsUnbroken}
-use Rattle.ebpf_script.proofs.reader.words.past_visible.Given as goal
-
-abbrev pub invariant-loop-i : goal.invariant-loop-i
-invariant-loop-i l = (l.from ≤ l.i) × (l.i ≤ length l.text) × IsUnbroken (take l.i l.text)
-
-abbrev pub decreases-loop-i : goal.decreases-loop-i
-decreases-loop-i l = length l.text - l.i

@@ -1,4 +1,0 @@
-use Rattle.ebpf_script.proofs.run_answer.JobsAnswer.put_reports.Goals as goal
-
-pub returns-in-Text : goal.returns-in-Text
-returns-in-Text g c = rw (c.in-Text.is) c.put_each.ensures

@@ -1,6 +1,0 @@
-use Rattle.std.proofs.Common.{◌≡◌, ◌++◌, drop, string_bytes}
-use Rattle.ebpf_script.specs.StatsLines.{workers_from}
-use Rattle.ebpf_script.proofs.stats_text.write_workers.Given as goal
-
-abbrev pub invariant-loop-worker : goal.invariant-loop-worker
-invariant-loop-worker l = string_bytes l.text ++ workers_from l.worker (drop l.worker l.jobs_done) ≡ string_bytes l.fn.text ++ workers_from 0 l.jobs_done

@@ -1,5 +1,0 @@
-use Rattle.ebpf_command.proofs.KindLemmas.{AreRows-kinds}
-use Rattle.ebpf_script.proofs.verdicts.Verdicts.add_on.Goals as goal
-
-pub examine-requires : goal.examine-requires
-examine-requires c = AreRows-kinds c.args.rows.now c.requires
