@@ -1,9 +1,11 @@
 //! The texts of what was done over scripts, as lines and as JSON objects: verdicts on programs, a world, the outcome of jobs, what they
 //! executed, and the table of `--stats`.
 //!
-//! *The idea.* No command is here. Each function writes a text that a definition gives to the byte, so commands that report alike
-//! use the same one: `check`, `replay`, `run` and `stream` have one way to write a verdict, and `run` and `stream` one for a job. `verdicts`
-//! also judges, since the verdicts of a script are judged and written in one pass over its programs.
+//! *The idea.* No command is here. Each function writes a text that a definition gives to the byte, and commands that report alike use the
+//! same one: `check`, `replay`, `run` and `stream` for a verdict, `run` and `stream` for a job.
+//!
+//! `verdicts` is here since each of those commands begins with it. It judges a program and writes the verdict in one step, so it stands above
+//! the reader, whose programs it takes.
 //!
 //! To be read in this order: `verdict_text`, `verdicts`, `world_text`, `text_line`, `world_json`, `exit_line`, `report_form`,
 //! `outcome_text`, `outcome_json`, `run_answer`, `covered_text`, `stats`, `outcome_stats`, `meter`, `stats_text`, `stats_json`, `watch`.
