@@ -11,19 +11,19 @@ use Rattle.ebpf_command.specs.declared.done.FaultCode.{FaultCode}
 use Rattle.ebpf_command.specs.HexText.{bytes_or_none}
 use Rattle.ebpf_command.specs.Response.{Response}
 use Rattle.ebpf_command.specs.Writing.{Responding, Writes}
-use Rattle.ebpf_one.specs.declared.ask.Input.{Input}
-use Rattle.ebpf_one.specs.declared.ask.Input.TheVariants.{Program, Object}
-use Rattle.ebpf_one.specs.declared.form.Form.{Form}
-use Rattle.ebpf_one.specs.declared.form.Form.TheVariants.{Hex, Raw}
+use Rattle.ebpf_input.specs.declared.ask.Input.{Input}
+use Rattle.ebpf_input.specs.declared.ask.Input.TheVariants.{Program, Object}
+use Rattle.ebpf_input.specs.declared.form.Form.{Form}
+use Rattle.ebpf_input.specs.declared.form.Form.TheVariants.{Hex, Raw}
+use Rattle.ebpf_input.specs.Asked.{Asked, asked_for, bytes_in, input_fault, fault_of}
+use Rattle.ebpf_input.specs.ObjectText.{RespondsInput}
+use Rattle.ebpf_input.specs.ProgramText.{is_blank}
+use Rattle.ebpf_input.proofs.Digits.{not_above}
 use Rattle.ebpf_one.specs.Alike.{IsHexText, WritesAsHex, WritesInputAsHex}
-use Rattle.ebpf_one.specs.Asked.{Asked, asked_for, bytes_in, input_fault, fault_of}
 use Rattle.ebpf_one.specs.LayOutText.{LaysOut, LaysOutGiven}
 use Rattle.ebpf_one.specs.ListText.{RespondsList, RespondsGiven}
-use Rattle.ebpf_one.specs.ObjectText.{RespondsInput}
 use Rattle.ebpf_one.specs.OneText.{Responds, RespondsAsked}
 use Rattle.ebpf_one.specs.SourceText.{ListsInput}
-use Rattle.ebpf_one.specs.ProgramText.{is_blank}
-use Rattle.ebpf_one.proofs.Digits.{not_above}
 
 -- the bytes are no more than the digits
 bytes_fit : (text bytes : List ℕ) (r : Result (List ℕ) FromHexError) → decode_of text ≡ r → bytes_or_none r ≡ Some bytes → length bytes ≤ length text

@@ -1,48 +1,21 @@
--- The responses of `one` and `list` to an input are their responses to what is read of it.
-use Rattle.std.proofs.Common.{◌≡◌, ℕ, ◌<◌, Bool, List, length, Option, Some, None, refl, sym, subst, arith}
-use Rattle.std.proofs.lemmas.List.{length-take-le}
-use Rattle.std.proofs.lemmas.Bool.{lt-ltb}
+-- The responses of `one`, `list` and `lay-out` to an input are their responses to what is read of it.
+use Rattle.std.proofs.Common.{◌≡◌, ℕ, Bool, List, Option, None, sym, subst}
 use Rattle.ebpf_command.specs.declared.format.Format.{Format}
 use Rattle.ebpf_state.specs.declared.kinds.KindRow.{KindRow}
 use Rattle.ebpf_verify.specs.declared.decl.Decl.{Decl}
 use Rattle.ebpf_command.specs.declared.done.FaultCode.{FaultCode}
-use Rattle.ebpf_command.specs.declared.done.FaultCode.TheVariants.{InputTooLong}
 use Rattle.ebpf_command.specs.declared.judge.Judged.{Judged}
-use Rattle.ebpf_command.specs.Input.{read_of}
 use Rattle.ebpf_command.specs.Judging.{IsJudged}
 use Rattle.ebpf_command.specs.Response.{Response}
 use Rattle.ebpf_command.proofs.Written.{CutsLong}
-use Rattle.ebpf_one.specs.declared.form.Form.{Form}
-use Rattle.ebpf_one.specs.Asked.{Asked, asked_for, bytes_in, input_fault, fault_of}
-use Rattle.ebpf_one.specs.Shown.{ShowsTo, ShowsAsked, ShowsBytes, ShowsWith}
-use Rattle.ebpf_one.specs.declared.shown.Shown.{Shown}
+use Rattle.ebpf_input.specs.declared.form.Form.{Form}
+use Rattle.ebpf_input.specs.Asked.{Asked, AreGiven, asked_for, bytes_in, input_fault, fault_of}
+use Rattle.ebpf_input.proofs.LongInputs.{cuts_at, fault_of_long, input_fault_long}
 use Rattle.ebpf_one.specs.LayOutText.{LaysOut, LaysOutGiven}
 use Rattle.ebpf_one.specs.ListText.{RespondsList, RespondsGiven}
-use Rattle.ebpf_one.specs.OneText.{Responds, RespondsAsked, RespondsBytes, RespondsJudged, AreGiven}
+use Rattle.ebpf_one.specs.OneText.{Responds, RespondsAsked, RespondsBytes, RespondsJudged}
 
--- an input that is too long is S1, whatever it holds
-input_fault_long : (form : Form) (input : List ℕ) → 1048576 < length input → input_fault form input ≡ Some InputTooLong
-input_fault_long form input long = rw (lt-ltb 1048576 (length input) long) refl
-
-pub fault_of_long : (form : Form) (input context : List ℕ) (held : ℕ) → 1048576 < length input → fault_of form input context held ≡ Some InputTooLong
-fault_of_long form input context held long = rw (lt-ltb 1048576 (length input) long) refl
-
--- the responses to an input by the fault that it has
-abbrev RespondsBy : Type 1
-RespondsBy = Option FaultCode → List ℕ → Response → Type 0
-
--- where the response to an input that is too long is S1, whatever its bytes, it is the response to its beginning
-pub cuts_at : (fault : List ℕ → Option FaultCode) (Sends : RespondsBy)
-    → ((input : List ℕ) → 1048576 < length input → fault input ≡ Some InputTooLong)
-    → ((a b : List ℕ) (response : Response) → Sends (Some InputTooLong) a response → Sends (Some InputTooLong) b response)
-    → CutsLong (λ input response. Sends (fault input) input response)
-cuts_at fault Sends is_long same input response long h =
-    let cut : length (read_of input) ≡ 1048577 = length-take-le 1048577 input (omega (arith, long)) in
-    let of_beginning : Sends (Some InputTooLong) (read_of input) response =
-    subst (λ (f : Option FaultCode). Sends f (read_of input) response) (is_long (read_of input) (omega (arith, cut))) h in
-    subst (λ (f : Option FaultCode). Sends f input response) (sym (is_long input (omega (arith, long)))) (same (read_of input) input response of_beginning)
-
--- so `one` responds to an input that is too long as to its beginning
+-- `one` responds to an input that is too long as to its beginning
 pub one_cuts : (format : Format) (form : Form) (context : List ℕ) (held : ℕ) (nulls : Bool) → CutsLong (Responds format form context held nulls)
 one_cuts format form context held nulls =
     cuts_at (λ input. fault_of form input context held) (λ f input response. RespondsAsked format f (asked_for form input context held) nulls response)
@@ -66,26 +39,6 @@ pub Responds-asked : (format : Format) (form : Form) (input context : List ℕ) 
 Responds-asked format form input context held nulls a response fine same h =
     let P : Option FaultCode → Type 0 = λ f. RespondsAsked format f (asked_for form input context held) nulls response in
     subst P (sym fine) (subst (λ (x : Asked). RespondsBytes format x nulls response) same h)
-
--- and so do `explain` and `graph`
-pub shown_cuts : (shown : Shown) (form : Form) (context : List ℕ) (held : ℕ) → CutsLong (ShowsTo shown form context held)
-shown_cuts shown form context held =
-    cuts_at (λ input. fault_of form input context held) (λ f input response. ShowsAsked shown f form input context held response)
-    (λ input long. fault_of_long form input context held long) (λ a b response h. h)
-
--- what the bytes of a request are shown as
-pub shown_bytes : (shown : Shown) (a : Asked) (seen : List ℕ) (decl : Decl) (rows : List KindRow) (response : Response) → seen ≡ a.bytes
-    → AreGiven a decl rows → ShowsWith shown seen decl rows response → ShowsBytes shown a response
-shown_bytes shown a seen decl rows response same given h =
-    (decl, rows, given, subst (λ (bytes : List ℕ). ShowsWith shown bytes decl rows response) same h)
-
--- what the bytes that an input asks for are shown as is what the input is
-pub Shows-asked : (shown : Shown) (form : Form) (input context : List ℕ) (held : ℕ) (a : Asked) (response : Response)
-    → fault_of form input context held ≡ None → a ≡ asked_for form input context held → ShowsBytes shown a response
-    → ShowsTo shown form context held input response
-Shows-asked shown form input context held a response fine same h =
-    let P : Option FaultCode → Type 0 = λ f. ShowsAsked shown f form input context held response in
-    subst P (sym fine) (subst (λ (x : Asked). ShowsBytes shown x response) same h)
 
 -- and so does `lay-out`
 pub lay_out_cuts : (format : Format) (form : Form) → CutsLong (LaysOut format form)

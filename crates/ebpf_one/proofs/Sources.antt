@@ -1,7 +1,6 @@
 -- The listing with the lines of C, a slot at a time, and of an object file that is too long.
-use Rattle.std.proofs.Common.{◌≡◌, ◌+◌, inl, inr, ℕ, Bool, true, false, List, [], ◌++◌, Option, refl, ap, subst, ◌∙◌, add-one, append_assoc, arith}
+use Rattle.std.proofs.Common.{◌≡◌, ◌+◌, inl, inr, ℕ, Bool, true, false, List, [], ◌++◌, Option, refl, ap, subst, ◌∙◌, add-one, arith}
 use Rattle.std.specs.Prelude.{None, Some, slice_index_or}
-use Rattle.std.specs.Option.{MatchOption}
 use Rattle.ebpf_command.specs.declared.format.Format.{Format}
 use Rattle.ebpf_insn.specs.declared.insn.Insn.{Insn}
 use Rattle.ebpf_insn.specs.Program.{insn_at}
@@ -10,32 +9,18 @@ use Rattle.ebpf_object_file.specs.declared.function.Function.{Function}
 use Rattle.ebpf_object_file.specs.declared.lines.Line.{Line}
 use Rattle.ebpf_object_file.specs.declared.lines.Lines.{Lines}
 use Rattle.ebpf_object_file.specs.Source.{AreLinesOf, HasNoLinesOf}
+use Rattle.ebpf_input.specs.declared.ask.Input.{Input}
+use Rattle.ebpf_input.specs.declared.ask.Input.TheVariants.{Program, Object}
+use Rattle.ebpf_input.specs.declared.form.Form.TheVariants.{Raw}
+use Rattle.ebpf_input.specs.SourceLine.{heading, held_before}
+use Rattle.ebpf_input.proofs.ObjectResponses.{read_long, object_cuts}
+use Rattle.ebpf_input.proofs.SourceLine.{LinesKnown, headed_row}
 use Rattle.ebpf_one.specs.Formats.{insn_in}
 use Rattle.ebpf_command.specs.Response.{Response}
 use Rattle.ebpf_command.proofs.Written.{CutsLong}
-use Rattle.ebpf_one.specs.declared.ask.Input.{Input}
-use Rattle.ebpf_one.specs.declared.ask.Input.TheVariants.{Program, Object}
-use Rattle.ebpf_one.specs.declared.form.Form.TheVariants.{Raw}
 use Rattle.ebpf_one.specs.ListText.{RespondsList}
 use Rattle.ebpf_one.specs.SourceText.{sourced_below, SourcesDecoded, SourcesFunction, RespondsSource, ListsInput}
-use Rattle.ebpf_one.specs.Sourced.{heading, held_before}
-use Rattle.ebpf_one.proofs.ObjectResponses.{read_long, object_cuts}
 use Rattle.ebpf_one.proofs.Responses.{list_cuts}
-
--- a line of C and another line after a text
-pub headed_row : (format : Format) (l : Lines) (before earlier now held : Option Line) (text headed written row : List ℕ) → before ≡ earlier → now ≡ held
-    → headed ≡ text ++ heading format l before now → written ≡ headed ++ row → written ≡ text ++ (heading format l earlier held ++ row)
-headed_row format l before earlier now held text headed written row same is first second =
-    let here : headed ≡ text ++ heading format l earlier held =
-    first ∙ (ap (λ (o : Option Line). text ++ heading format l o now) same ∙ ap (λ (o : Option Line). text ++ heading format l earlier o) is) in
-    second ∙ (ap (λ (x : List ℕ). x ++ row) here ∙ append_assoc text (heading format l earlier held) row)
-
--- three texts after a text, the second of which is equal to what is wanted
-pub third_after : (before one two new a b wanted c : List ℕ) → one ≡ before ++ a → two ≡ one ++ b → b ≡ wanted → new ≡ two ++ c
-    → new ≡ before ++ (a ++ (wanted ++ c))
-third_after before one two new a b wanted c first second same third =
-    third ∙ (ap (λ (x : List ℕ). x ++ c) (second ∙ (ap (λ (x : List ℕ). x ++ b) first ∙ ap (λ (x : List ℕ). (before ++ a) ++ x) same))
-    ∙ (append_assoc (before ++ a) wanted c ∙ append_assoc before a (wanted ++ c)))
 
 pub sourced_none : (format : Format) (l : Lines) (holding : List (Option Line)) (p : List (Option Insn)) → [] ≡ sourced_below format l holding p 0
 unfolding sourced_below
@@ -64,10 +49,6 @@ source_cuts format name file response long (inr (inl k)) =
     let short = k.0 in let read = read_long file long in absurd (omega (arith, short, read))
 source_cuts format name file response long (inr (inr k)) =
     let short = k.1.0 in let read = read_long file long in absurd (omega (arith, short, read))
-
--- what is known of a function's lines
-abbrev pub LinesKnown : List ℕ → Function → Option Lines → Type 0
-LinesKnown file f r = MatchOption r (HasNoLinesOf file f.place.section) (λ l. AreLinesOf file f.place.section l)
 
 -- the response to a function without lines, and with them
 pub of_no_lines : (format : Format) (file : List ℕ) (f : Function) (r : Option Lines) (response : Response) → r ≡ None → LinesKnown file f r

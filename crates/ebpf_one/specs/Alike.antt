@@ -3,11 +3,11 @@ use Rattle.std.specs.Prelude.{◌≡◌, ◌≤◌, ℕ, List, length, Option, S
 use Rattle.ebpf_command.specs.declared.done.Done.{Done}
 use Rattle.ebpf_command.specs.declared.done.EngineFault.{EngineFault}
 use Rattle.ebpf_command.specs.Writing.{Responding, Writes}
-use Rattle.ebpf_one.specs.declared.ask.Input.{Input}
-use Rattle.ebpf_one.specs.declared.ask.Input.TheVariants.{Program, Object}
-use Rattle.ebpf_one.specs.declared.form.Form.{Form}
-use Rattle.ebpf_one.specs.declared.form.Form.TheVariants.{Hex, Raw}
-use Rattle.ebpf_one.specs.ProgramText.{program_bytes}
+use Rattle.ebpf_input.specs.declared.ask.Input.{Input}
+use Rattle.ebpf_input.specs.declared.ask.Input.TheVariants.{Program, Object}
+use Rattle.ebpf_input.specs.declared.form.Form.{Form}
+use Rattle.ebpf_input.specs.declared.form.Form.TheVariants.{Hex, Raw}
+use Rattle.ebpf_input.specs.ProgramText.{program_bytes}
 
 -- a text of hex digits for these bytes, no longer than an input may be
 pub record IsHexText (hex bytes : List ℕ) : Type 0 where

@@ -19,10 +19,10 @@ use Rattle.ebpf_command.specs.Codes.{refusal_name, flow_name}
 use Rattle.ebpf_command.specs.Json.{fault_in}
 use Rattle.ebpf_command.specs.Response.{Response, refused_response, clean_response}
 use Rattle.ebpf_command.specs.Writing.{Responding}
-use Rattle.ebpf_one.specs.declared.form.Form.{Form}
-use Rattle.ebpf_one.specs.Asked.{bytes_in, input_fault}
-use Rattle.ebpf_one.specs.InputFaults.{undecoded_sentence}
-use Rattle.ebpf_one.specs.Formats.{refused_why_in}
+use Rattle.ebpf_input.specs.declared.form.Form.{Form}
+use Rattle.ebpf_input.specs.Asked.{bytes_in, input_fault}
+use Rattle.ebpf_input.specs.InputFaults.{undecoded_sentence}
+use Rattle.ebpf_input.specs.Formats.{refused_why_in}
 
 -- bytes as hex, on one line
 abbrev pub hex_in : Format → List ℕ → List ℕ

@@ -1,15 +1,13 @@
-//! The lines that are written as objects of JSON.
+//! A run and a listing, as objects of JSON.
 
 ghost use Rattle.std.specs.Prelude.{◌≡◌, ◌++◌, IfOk, OnOk, length, string_bytes};
 ghost use Rattle.ebpf_explain.specs.StackWords.{texts_below};
 ghost use Rattle.ebpf_insn.specs.Program.{insn_at};
-ghost use Rattle.ebpf_one.specs.Formats.{run_objects, instruction_object, object_at, source_head, source_tail};
+ghost use Rattle.ebpf_one.specs.Formats.{run_objects, object_at};
 
-use ebpf_command::json::{write_numbers, write_quoted};
-use ebpf_insn::insn::Insn;
+use ebpf_command::json::write_numbers;
+use ebpf_input::json_text::write_instruction;
 use ebpf_insn::program::Program;
-use ebpf_object_file::lines::{Line, Lines};
-use ebpf_text::line::write_insn;
 use std::alloc::{AllocError, Global};
 
 /// The objects of a program of n instructions that ran to its end.
@@ -31,20 +29,6 @@ pub(crate) fn run_objects(
     write_numbers(&mut text, output)?;
     text.push_str("]}\n")?;
     Ok(text)
-}
-
-/// Writes the object of an instruction after a text.
-pub(crate) fn write_instruction(
-    text: &mut String,
-    slot: usize,
-    insn: &Insn,
-) -> Result<(), AllocError>
-    ensures { OnOk result (string_bytes text.new ≡ string_bytes text.old ++ instruction_object slot insn.now) }
-{
-    write!(text, "{{\"slot\":{slot},\"instruction\":\"")?;
-    write_insn(text, insn)?;
-    text.push_str("\"}\n")?;
-    Ok(())
 }
 
 /// Writes the object of the instruction at a slot, if one begins there.
@@ -70,35 +54,4 @@ pub(crate) fn listing_objects(alloc: Global, program: &Program) -> Result<String
         write_object_at(&mut text, program, slot)?;
     }
     Ok(text)
-}
-
-/// Writes the file and the number of a line of C after a text, as the first members of its object.
-pub(crate) fn write_source_head(
-    text: &mut String,
-    lines: Lines<'_>,
-    line: Line,
-) -> Result<(), AllocError>
-    ensures { OnOk result (string_bytes text.new ≡ string_bytes text.old ++ source_head lines.entry line) }
-{
-    let source = lines.source(line);
-    let number = source.line;
-    text.push_str("{\"file\":")?;
-    write_quoted(text, source.file)?;
-    write!(text, ",\"line\":{number}")?;
-    Ok(())
-}
-
-/// Writes the text of a line of C after a text, as the last member of its object.
-pub(crate) fn write_source_tail(
-    text: &mut String,
-    lines: Lines<'_>,
-    line: Line,
-) -> Result<(), AllocError>
-    ensures { OnOk result (string_bytes text.new ≡ string_bytes text.old ++ source_tail lines.entry line) }
-{
-    let source = lines.source(line);
-    text.push_str(",\"source\":")?;
-    write_quoted(text, source.text)?;
-    text.push_str("}\n")?;
-    Ok(())
 }

@@ -4,7 +4,7 @@ use crate::format::{format_of, json_option};
 use crate::input::{elf_option, function_option, input_of, lines_option, raw_option};
 use clap::{Arg, ArgAction, ArgMatches, Command, value_parser};
 use ebpf_command::format::Format;
-use ebpf_one::ask::{Ask, Input};
+use ebpf_input::ask::{Ask, Input};
 use ebpf_script::run_ask::RunAsk;
 use std::alloc::{AllocError, Global};
 

@@ -1,8 +1,8 @@
 //! What the input of a command over one program is: the program's bytes, or an object file.
 
 use clap::{Arg, ArgAction, ArgMatches};
-use ebpf_one::ask::Input;
-use ebpf_one::form::Form;
+use ebpf_input::ask::Input;
+use ebpf_input::form::Form;
 use std::alloc::{AllocError, Global};
 
 /// The option of raw bytes.

@@ -2,8 +2,8 @@
 //!
 //! This crate reads the command line, opens the file that is named and has the standard streams. What a command writes is a function of
 //! what it reads and of its options, errors included, and it writes nothing else. That is the contract of [`one`] and [`list`], which
-//! read hex and write plain text; of [`ebpf_one::one::one`], [`ebpf_one::list::list`], [`ebpf_one::explain::explain`],
-//! [`ebpf_one::graph::graph`] and [`ebpf_one::lay_out::lay_out`]; of [`ebpf_assemble::assemble::assemble`],
+//! read hex and write plain text; of [`ebpf_one::one::one`], [`ebpf_one::list::list`], [`ebpf_show::explain::explain`],
+//! [`ebpf_show::graph::graph`] and [`ebpf_one::lay_out::lay_out`]; of [`ebpf_assemble::assemble::assemble`],
 //! [`ebpf_script::check_script::check_script`] and [`ebpf_script::replay_script::replay_script`]. What `run` writes is such a text for some outcome of the jobs, since threads decide which
 //! requests for objects are granted and what is found on a shelf: that is the contract of [`ebpf_script::run_script::run_script`]. `stream`
 //! answers each line of its input, and has its own contract: [`ebpf_stream::stream::stream`]. These are all that it calls.
@@ -23,14 +23,14 @@ use clap::error::ErrorKind;
 use ebpf_assemble::assemble::assemble;
 use ebpf_command::done::{Done, EngineFault};
 use ebpf_command::input::MAX_INPUT;
-use ebpf_one::explain::explain;
-use ebpf_one::graph::graph;
 use ebpf_one::lay_out::lay_out;
 use ebpf_report::meter::{Meter, MissMeter};
 use ebpf_report::watch::{TABLE_BYTES, Watch};
 use ebpf_script::check_script::check_script;
 use ebpf_script::replay_script::replay_script;
 use ebpf_script::run_script::run_script;
+use ebpf_show::explain::explain;
+use ebpf_show::graph::graph;
 use ebpf_stream::stream::stream;
 use std::alloc::Global;
 use std::fs::{File, OpenFile};

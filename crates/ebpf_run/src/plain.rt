@@ -2,14 +2,14 @@
 
 ghost use Rattle.ebpf_command.specs.declared.format.Format.TheVariants.{Text};
 ghost use Rattle.ebpf_command.specs.Writing.{Performs};
-ghost use Rattle.ebpf_one.specs.declared.form.Form.TheVariants.{Hex};
+ghost use Rattle.ebpf_input.specs.declared.form.Form.TheVariants.{Hex};
 ghost use Rattle.ebpf_one.specs.ListText.{RespondsList};
 ghost use Rattle.ebpf_one.specs.OneText.{Responds};
 
 use ebpf_command::done::{Done, EngineFault};
 use ebpf_command::format::Format;
-use ebpf_one::ask::{Ask, Input};
-use ebpf_one::form::Form;
+use ebpf_input::ask::{Ask, Input};
+use ebpf_input::form::Form;
 use ebpf_one::list::list as list_program;
 use ebpf_one::one::one as run_program;
 use std::alloc::Global;

@@ -3,7 +3,7 @@
 use crate::events::is_replayed;
 use crate::programs::{asked, column, holds, is_text};
 use ebpf_command::done::Done;
-use ebpf_one::form::Form;
+use ebpf_input::form::Form;
 use ebpf_one::one::one;
 use std::alloc::Global;
 use std::process::Abort;

@@ -7,8 +7,8 @@ use crate::range::{
     CONDITIONS, ENDS, OPERATIONS, condition, extended, is_so, kept, low_half, operation, orders,
     readings, result,
 };
+use ebpf_input::form::Form;
 use ebpf_insn::insn::{AluOp, Cond, Width};
-use ebpf_one::form::Form;
 use ebpf_one::one::one;
 use std::alloc::Global;
 use std::process::Abort;

@@ -1,7 +1,7 @@
 //! What `one` says of programs that load and store.
 
 use crate::programs::{asked, column, is_text};
-use ebpf_one::form::Form;
+use ebpf_input::form::Form;
 use ebpf_one::one::one;
 use std::alloc::Global;
 use std::process::Abort;

@@ -4,12 +4,12 @@
 use crate::programs::{asked, holds};
 use ebpf_command::done::Done;
 use ebpf_command::format::Format;
-use ebpf_one::ask::Input;
-use ebpf_one::explain::explain;
-use ebpf_one::form::Form;
+use ebpf_input::ask::Input;
+use ebpf_input::form::Form;
 use ebpf_one::lay_out::lay_out;
 use ebpf_one::list::list;
 use ebpf_one::one::one;
+use ebpf_show::explain::explain;
 use std::alloc::Global;
 use std::process::Abort;
 use std::test::*;

@@ -3,10 +3,10 @@
 //! What can't be read ends the test: there is nothing to clean up, and no path back to be translated and proved.
 
 use ebpf_command::format::Format;
+use ebpf_input::ask::{Ask, Input};
+use ebpf_input::form::Form;
 use ebpf_insn::decode::decode;
 use ebpf_insn::program::Program;
-use ebpf_one::ask::{Ask, Input};
-use ebpf_one::form::Form;
 use std::alloc::Global;
 use std::process::Abort;
 

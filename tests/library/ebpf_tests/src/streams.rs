@@ -3,13 +3,13 @@
 use crate::programs::{asked, holds};
 use ebpf_command::done::{Done, EngineFault};
 use ebpf_command::format::Format;
-use ebpf_one::ask::Input;
-use ebpf_one::explain::explain;
-use ebpf_one::form::Form;
+use ebpf_input::ask::Input;
+use ebpf_input::form::Form;
 use ebpf_one::list::list;
 use ebpf_one::one::one;
 use ebpf_script::check_script::check_script;
 use ebpf_script::{check, replay, run};
+use ebpf_show::explain::explain;
 use std::alloc::Global;
 use std::io;
 use std::io::{Read, Write};

@@ -1,6 +1,6 @@
 use Rattle.std.proofs.Common.{◌≡◌, refl}
 use Rattle.std.proofs.lemmas.Result.{IfOk-weaker}
-use Rattle.ebpf_one.specs.Asked.{Asked, asked_for}
+use Rattle.ebpf_input.specs.Asked.{Asked, asked_for}
 use Rattle.ebpf_one.proofs.Responses.{Responds-asked}
 use Rattle.ebpf_one.proofs.answer.answer_program.Goals as goal
 

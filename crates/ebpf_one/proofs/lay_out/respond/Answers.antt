@@ -1,8 +1,8 @@
 use Rattle.std.proofs.Common.{rules}
 use Rattle.ebpf_command.proofs.Written.{performs_answer, performs_nothing}
+use Rattle.ebpf_input.specs.ObjectText.{RespondsInput}
+use Rattle.ebpf_input.proofs.ObjectResponses.{input_cuts}
 use Rattle.ebpf_one.specs.LayOutText.{LaysOut}
-use Rattle.ebpf_one.specs.ObjectText.{RespondsInput}
-use Rattle.ebpf_one.proofs.ObjectResponses.{input_cuts}
 use Rattle.ebpf_one.proofs.Responses.{lay_out_cuts}
 use Rattle.ebpf_one.proofs.lay_out.respond.Goals as goal
 

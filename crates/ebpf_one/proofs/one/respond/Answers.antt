@@ -1,8 +1,8 @@
 use Rattle.std.proofs.Common.{rules}
 use Rattle.ebpf_command.proofs.Written.{performs_answer, performs_nothing}
-use Rattle.ebpf_one.specs.ObjectText.{RespondsInput}
+use Rattle.ebpf_input.specs.ObjectText.{RespondsInput}
+use Rattle.ebpf_input.proofs.ObjectResponses.{input_cuts}
 use Rattle.ebpf_one.specs.OneText.{OneTo}
-use Rattle.ebpf_one.proofs.ObjectResponses.{input_cuts}
 use Rattle.ebpf_one.proofs.Responses.{one_cuts}
 use Rattle.ebpf_one.proofs.one.respond.Goals as goal
 

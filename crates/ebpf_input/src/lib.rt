@@ -1,0 +1,19 @@
+//! What is asked of a command over one program, and the program that its input gives, or why it gives none.
+//!
+//! The input is hex, raw bytes, or an object file, of which a function is taken: [`request::given_bytes`] reads the first two, and
+//! [`object::taken`] takes the slots of a function. What isn't such an input is answered in the format that is asked for, with its sentence and
+//! the line of C that holds there. The commands themselves are in the crates above, which also write what is here: the rows of a refusal, of an
+//! instruction and of a line of C.
+//!
+//! To be read in this order: `form`, `ask`, `program_text`, `request`, `json_text`, `source_line`, `in_format`, `object`, `input_faults`.
+#![tactic(auto)]
+
+pub mod ask;
+pub mod form;
+pub mod in_format;
+pub mod input_faults;
+pub mod json_text;
+pub mod object;
+mod program_text;
+pub mod request;
+pub mod source_line;

@@ -1,7 +1,0 @@
-use Rattle.std.proofs.Common.{◌≡◌, ◌+◌, drop}
-use Rattle.std.specs.List.{prefix_len}
-use Rattle.ebpf_one.specs.InputFaults.{may_stand}
-use Rattle.ebpf_one.proofs.input_faults.place_of_other.Given as goal
-
-abbrev pub invariant-loop-place : goal.invariant-loop-place
-invariant-loop-place l = prefix_len (may_stand l.fn.part) l.bytes ≡ l.place + prefix_len (may_stand l.fn.part) (drop l.place l.bytes)

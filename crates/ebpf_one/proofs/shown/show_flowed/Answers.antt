@@ -1,5 +1,0 @@
-use Rattle.ebpf_command.proofs.KindLemmas.{AreRows-kinds}
-use Rattle.ebpf_one.proofs.shown.show_flowed.Goals as goal
-
-pub of-requires : goal.of-requires
-of-requires c = AreRows-kinds c.args.rows.now c.requires

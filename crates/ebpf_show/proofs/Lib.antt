@@ -1,0 +1,3 @@
+pub mod Responses
+pub mod Explanations
+pub mod Plain

@@ -1,0 +1,6 @@
+pub mod KnownObjects
+pub mod Sourced
+pub mod ExplainText
+pub mod GraphText
+pub mod Shown
+pub mod ExplainObject

@@ -1,0 +1,81 @@
+//! The command `graph`: the flow of one program as a graph, with the slot that is refused.
+
+ghost use Rattle.std.specs.Prelude.{◌≡◌, IfOk};
+ghost use Rattle.ebpf_verify.specs.Traced.{subject_of};
+ghost use Rattle.ebpf_command.specs.declared.format.Format.TheVariants.{Text};
+ghost use Rattle.ebpf_command.specs.Writing.{Performs};
+ghost use Rattle.ebpf_input.specs.ObjectText.{RespondsInput};
+ghost use Rattle.ebpf_show.specs.GraphText.{graphed_by};
+ghost use Rattle.ebpf_show.specs.Shown.{GraphsAs};
+
+use crate::shown::{Shown, show_input};
+use ebpf_command::answer::{Answer, write_answer};
+use ebpf_command::done::{Done, EngineFault};
+use ebpf_command::format::Format;
+use ebpf_command::input::read_input;
+use ebpf_graph::graph::write_graph;
+use ebpf_input::ask::{Ask, Input};
+use ebpf_input::form::Form;
+use ebpf_input::object::{answer_object_fault, taken};
+use ebpf_verify::trace::Trace;
+use std::alloc::{AllocError, Global};
+use std::io::{Read, Write};
+
+/// Reads a program and writes the graph of its flow as a text, with the slot that the verifier refuses. Of bytes that are no program, or
+/// whose flow is refused, it writes what [`crate::explain::explain`] does. With `states` each block begins with what is known before it.
+///
+/// # Errors
+/// `Input` where a read failed and `NoMemory` where an allocation failed: nothing was written then. `Output` where a write
+/// failed or took nothing.
+pub fn graph<R: Read, W: Write>(
+    alloc: Global,
+    reader: &mut R,
+    writer: &mut W,
+    ask: &Ask<'_>,
+    states: bool,
+) -> Result<Done, EngineFault>
+    ensures { Performs (RespondsInput Text ask.now.input (GraphsAs states ask.now.context.now ask.now.held)) (R.remaining reader.old) (R.remaining reader.new)
+        (W.contents writer.old) (W.contents writer.new) writer.old writer.new result }
+{
+    let input = read_input(alloc, reader)?;
+    let answer = graph_asked(alloc, ask, &input, states)?;
+    write_answer(writer, answer)
+}
+
+// The response to an input, by what it is.
+fn graph_asked(
+    alloc: Global,
+    ask: &Ask<'_>,
+    input: &[u8],
+    states: bool,
+) -> Result<Answer, AllocError>
+    ensures { IfOk result (RespondsInput Text ask.now.input (GraphsAs states ask.now.context.now ask.now.held) input.now) }
+{
+    let shown = Shown::Graph { states };
+    match ask.input {
+        Input::Program(form) => show_input(alloc, shown, form, input, ask.context, ask.held),
+        Input::Object(name) => match taken(name, input) {
+            Ok(bytes) => show_input(alloc, shown, Form::Raw, bytes, ask.context, ask.held),
+            Err(fault) => answer_object_fault(alloc, Format::Text, input, fault),
+        },
+    }
+}
+
+/// The answer with the graph of a program that a trace looked at, with the slot that is refused.
+pub(crate) fn answer_graph(alloc: Global, trace: &Trace, states: bool) -> Result<Answer, AllocError>
+    ensures { IfOk result (λ answer. answer ≡ graphed_by states trace.now.refusal (subject_of trace.now) trace.now.entries.items) }
+{
+    let mut text = String::new(alloc);
+    let Some((slot, _)) = trace.refusal else {
+        write_graph(alloc, &mut text, trace, None, states)?;
+        return Ok(Answer {
+            text,
+            done: Done::Clean,
+        });
+    };
+    write_graph(alloc, &mut text, trace, Some(slot), states)?;
+    Ok(Answer {
+        text,
+        done: Done::Refused,
+    })
+}

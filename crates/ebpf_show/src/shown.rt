@@ -1,0 +1,152 @@
+//! What `explain` and `graph` show of the bytes that are asked for, and of what is no such program, why.
+
+ghost use Rattle.std.specs.Prelude.{◌≡◌, IfOk, length};
+ghost use Rattle.ebpf_state.specs.Kinds.{AreKinds};
+ghost use Rattle.ebpf_show.specs.ExplainText.{misled_response};
+ghost use Rattle.ebpf_show.specs.Shown.{ShowsTo, ShowsBytes, ShowsWith, format_of, source_of, shown_of};
+
+use crate::explain::answer_states;
+use crate::graph::answer_graph;
+use crate::sourced::{Sourced, with_line};
+use ebpf_command::answer::Answer;
+use ebpf_command::codes::RefusalCode;
+use ebpf_command::done::Stop;
+use ebpf_command::format::Format;
+use ebpf_explain::reason::write_misled;
+use ebpf_flow::fault::FlowCode;
+use ebpf_flow::flowed::Flowed;
+use ebpf_flow::followed::{Followed, follow};
+use ebpf_input::form::Form;
+use ebpf_input::in_format::answer_refused_why;
+use ebpf_input::input_faults::{answer_undecoded, answer_unused};
+use ebpf_input::request::{Request, requested};
+use ebpf_insn::program::Program;
+use ebpf_state::kinds::{KindRow, kinds};
+use ebpf_verify::decl::Decl;
+use ebpf_verify::trace::Trace;
+use std::alloc::{AllocError, Global};
+
+/// What is shown of a program.
+#[derive(Clone, Copy)]
+pub(crate) enum Shown<'a> {
+    /// What is known before each of its instructions, with the lines of C that are known, and then the verdict.
+    States {
+        format: Format,
+        source: Option<Sourced<'a>>,
+    },
+    /// The graph of its flow. With states, each block begins with what is known before it.
+    Graph {
+        states: bool,
+    },
+}
+
+// The format of what is shown.
+fn format_of(shown: Shown<'_>) -> Format
+    ensures { result ≡ format_of shown.entry }
+{
+    match shown {
+        Shown::States { format, .. } => format,
+        Shown::Graph { .. } => Format::Text,
+    }
+}
+
+// The lines of C that are known.
+fn source_of<'a>(shown: Shown<'a>) -> Option<Sourced<'a>>
+    ensures { result ≡ source_of shown.entry }
+{
+    match shown {
+        Shown::States { source, .. } => source,
+        Shown::Graph { .. } => None,
+    }
+}
+
+/// The response to an input and the options. It fails only where an allocation fails.
+pub(crate) fn show_input(
+    alloc: Global,
+    shown: Shown<'_>,
+    form: Form,
+    input: &[u8],
+    context: &str,
+    held: u8,
+) -> Result<Answer, AllocError>
+    ensures { IfOk result (ShowsTo shown.entry form context.now held input.now) }
+{
+    match requested(alloc, form, input, context, held) {
+        Ok(request) => show_request(alloc, shown, request),
+        Err(Stop::Fault(code)) => {
+            answer_unused(alloc, format_of(shown), form, input, context, held, code)
+        }
+        Err(Stop::NoMemory) => Err(AllocError),
+    }
+}
+
+// The response to the bytes of a request.
+fn show_request(alloc: Global, shown: Shown<'_>, request: Request) -> Result<Answer, AllocError>
+    requires { request.decl.context ≡ length request.context.items }
+    ensures { IfOk result (ShowsBytes shown.entry (record { bytes = request.bytes.items; context = request.context.items; held = request.decl.held })) }
+{
+    show_bytes(alloc, shown, &request.bytes, request.decl, &kinds())
+}
+
+// The response to bytes, with what is declared and the kinds.
+fn show_bytes(
+    alloc: Global,
+    shown: Shown<'_>,
+    bytes: &[u8],
+    decl: Decl,
+    rows: &[KindRow],
+) -> Result<Answer, AllocError>
+    requires { AreKinds rows.now }
+    ensures { IfOk result (ShowsWith shown.entry bytes.now decl rows.now) }
+{
+    let format = format_of(shown);
+    let source = source_of(shown);
+    match follow(alloc, bytes)? {
+        Followed::Undecoded { slot, code } => {
+            let answer = answer_undecoded(alloc, format, bytes, slot, code)?;
+            with_line(format, answer, source, slot)
+        }
+        Followed::Misled {
+            program,
+            slot,
+            code,
+        } => {
+            let answer = answer_misled(alloc, format, &program, slot, code)?;
+            with_line(format, answer, source, slot)
+        }
+        Followed::Flowed(flowed) => show_flowed(alloc, shown, &flowed, decl, rows),
+    }
+}
+
+// The answer to a program whose flow is refused.
+fn answer_misled(
+    alloc: Global,
+    format: Format,
+    program: &Program,
+    slot: u16,
+    code: FlowCode,
+) -> Result<Answer, AllocError>
+    ensures { IfOk result (λ answer. answer ≡ misled_response format program.now slot code) }
+{
+    let mut why = String::new(alloc);
+    write_misled(alloc, &mut why, program, slot as usize, code)?;
+    answer_refused_why(alloc, format, RefusalCode::Flow(code).name(), slot, &why)
+}
+
+// What is shown of a program whose flow has no fault.
+fn show_flowed(
+    alloc: Global,
+    shown: Shown<'_>,
+    flowed: &Flowed,
+    decl: Decl,
+    rows: &[KindRow],
+) -> Result<Answer, AllocError>
+    requires { AreKinds rows.now }
+    ensures { IfOk result (λ answer. answer ≡ shown_of shown.entry (record { program = flowed.now; decl = decl; rows = rows.now })) }
+{
+    let trace = Trace::of(alloc, flowed, decl, rows)?;
+    match shown {
+        Shown::States { format, source } => answer_states(alloc, format, &trace, source),
+        Shown::Graph { states } => answer_graph(alloc, &trace, states),
+    }
+}
