@@ -11,7 +11,7 @@ use std::alloc::AllocError;
 #[derive(Clone, Copy)]
 pub enum Member<'a> {
     Word(&'a str, &'a str),
-    Number(&'a str, u64),
+    Number(&'a str, u128),
 }
 
 /// Writes a line of members after a text; of none, nothing. It fails only where an allocation fails.

@@ -8,7 +8,7 @@ ghost use Rattle.ebpf_host.specs.Stock.{Exchanges, Gives, Takes};
 ghost use Rattle.ebpf_host.specs.Stocks.{Holds, OthersStay, as_shelved, stock_of};
 
 use crate::stock::{Counts, Stock};
-use ebpf_object::{KindName, Object, Offer, kind_named, offer};
+use ebpf_object::{KindName, Object, Offer, kind_named};
 use slab_layer::{BlockKind, CellKind, Kind, RecordKind};
 use std::alloc::Global;
 use vmem_arena::{Arena, MAX_PAGES};
@@ -91,7 +91,7 @@ impl Stocks {
         ensures others { OthersStay self.old self.new shelf }
         ensures pages { self.new.arena.pages ≡ self.old.arena.pages }
     {
-        match offer(shelf, given) {
+        match Offer::to(shelf, given) {
             Offer::Cells(given) => self.cells.swap(given).map(Object::Cell),
             Offer::Records(given) => self.records.swap(given).map(Object::Record),
             Offer::Blocks(given) => self.blocks.swap(given).map(Object::Block),

@@ -11,4 +11,4 @@ mod offer;
 
 pub use kind_name::{KindName, kind_named};
 pub use object::Object;
-pub use offer::{Offer, offer};
+pub use offer::Offer;

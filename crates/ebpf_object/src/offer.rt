@@ -16,22 +16,24 @@ pub enum Offer {
     Blocks(Option<Obj<BlockKind, Held>>),
 }
 
-/// An object, or nothing, as an offer to the shelf of a kind, which is the object's.
-#[inline]
-pub fn offer(shelf: u8, object: Option<Object>) -> Offer
-    requires shelf { shelf < length known_kinds }
-    requires object { IfSome object (λ o. kind_of o ≡ shelf) }
-    ensures shelf { shelf_of result ≡ shelf }
-    ensures object { object_of result ≡ object }
-{
-    match object {
-        Some(Object::Cell(cell)) => Offer::Cells(Some(cell)),
-        Some(Object::Record(record)) => Offer::Records(Some(record)),
-        Some(Object::Block(block)) => Offer::Blocks(Some(block)),
-        None => match kind_named(shelf) {
-            KindName::Cell => Offer::Cells(None),
-            KindName::Record => Offer::Records(None),
-            KindName::Block => Offer::Blocks(None),
-        },
+impl Offer {
+    /// An offer of an object, or of nothing, to the shelf of a kind, which is the object's.
+    #[inline]
+    pub fn to(shelf: u8, object: Option<Object>) -> Offer
+        requires shelf { shelf < length known_kinds }
+        requires object { IfSome object (λ o. kind_of o ≡ shelf) }
+        ensures shelf { shelf_of result ≡ shelf }
+        ensures object { object_of result ≡ object }
+    {
+        match object {
+            Some(Object::Cell(cell)) => Offer::Cells(Some(cell)),
+            Some(Object::Record(record)) => Offer::Records(Some(record)),
+            Some(Object::Block(block)) => Offer::Blocks(Some(block)),
+            None => match kind_named(shelf) {
+                KindName::Cell => Offer::Cells(None),
+                KindName::Record => Offer::Records(None),
+                KindName::Block => Offer::Blocks(None),
+            },
+        }
     }
 }

@@ -1,7 +1,7 @@
 pub mod CountLemmas
 pub mod VerdictLemmas
 pub mod ExplainedLemmas
-pub mod WorldLemmas
+pub mod BelowLemmas
 pub mod PutLemmas
 pub mod ScriptTextLemmas
 pub mod TripleLemmas

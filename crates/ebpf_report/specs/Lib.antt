@@ -2,13 +2,15 @@ pub mod Verdicts
 pub mod VerdictsKept
 pub mod Explained
 pub mod ExplainedKept
+pub mod Below
 pub mod WorldLines
 pub mod OutcomeLines
 pub mod WorldObjects
+pub mod WorldText
 pub mod OutcomeObjects
+pub mod TotalsLines
 pub mod Stats
 pub mod StatsLines
-pub mod StatsObjects
 pub mod Tables
 pub mod Timing
 pub mod ScriptText

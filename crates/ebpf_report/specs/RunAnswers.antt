@@ -7,9 +7,10 @@ use Rattle.ebpf_command.specs.declared.format.Format.TheVariants.{Text, Json}
 use Rattle.ebpf_command.specs.Response.{Response}
 use Rattle.ebpf_report.specs.declared.run_answer.JobsAnswer.{JobsAnswer}
 use Rattle.ebpf_report.specs.declared.run_answer.RunAnswer.{RunAnswer}
-use Rattle.ebpf_report.specs.OutcomeLines.{cache_lines, report_lines, shelf_lines}
-use Rattle.ebpf_report.specs.OutcomeObjects.{cache_objects, job_object, shelf_objects}
+use Rattle.ebpf_report.specs.OutcomeLines.{report_lines}
+use Rattle.ebpf_report.specs.OutcomeObjects.{job_object}
 use Rattle.ebpf_report.specs.ReportForms.{each_from}
+use Rattle.ebpf_report.specs.TotalsLines.{totals_lines}
 
 -- what each job did
 abbrev pub jobs_in : Format → List Report → List ℕ
@@ -18,8 +19,7 @@ jobs_in Json reports = each_from job_object 0 reports
 
 -- what follows in the text of an outcome: what the caches and the shelves did
 abbrev pub totals_in : Format → JobsOutcome → List ℕ
-totals_in Text o = cache_lines o.totals ++ shelf_lines o.shelves
-totals_in Json o = cache_objects o.totals ++ shelf_objects o.shelves
+totals_in format o = totals_lines format o.totals o.shelves
 
 -- what jobs came to: what each did, and what follows
 abbrev pub jobs_text : JobsAnswer → List ℕ

@@ -1,15 +1,9 @@
 -- The table of what the caches and the workers did, in a format.
 use Rattle.std.specs.Prelude.{ℕ, List, [], Option, Some, None}
 use Rattle.ebpf_command.specs.declared.format.Format.{Format}
-use Rattle.ebpf_command.specs.declared.format.Format.TheVariants.{Text, Json}
 use Rattle.ebpf_report.specs.declared.stats.Stats.{Stats}
 use Rattle.ebpf_report.specs.declared.watch.Times.{Times}
-use Rattle.ebpf_report.specs.StatsLines.{table_lines}
-use Rattle.ebpf_report.specs.StatsObjects.{table_objects}
-
-abbrev pub table_in : Format → Stats → Times → List ℕ
-table_in Text s t = table_lines s t
-table_in Json s t = table_objects s t
+use Rattle.ebpf_report.specs.StatsLines.{table_in}
 
 -- nothing where no jobs were done
 abbrev pub table_if : Format → Option Stats → Times → List ℕ

@@ -7,8 +7,8 @@
 //! `verdicts` is here since each of those commands begins with it. It judges a program and writes the verdict in one step, so it stands above
 //! the reader, whose programs it takes.
 //!
-//! To be read in this order: `verdict_text`, `verdicts`, `world_text`, `text_line`, `world_json`, `exit_line`, `report_form`,
-//! `outcome_text`, `outcome_json`, `run_answer`, `covered_text`, `stats`, `outcome_stats`, `meter`, `stats_text`, `stats_json`, `watch`.
+//! To be read in this order: `verdict_text`, `verdicts`, `text_line`, `world_lines`, `world_json`, `world_text`, `exit_line`, `report_form`,
+//! `outcome_text`, `outcome_json`, `totals_text`, `run_answer`, `covered_text`, `stats`, `outcome_stats`, `meter`, `stats_text`, `watch`.
 #![tactic(auto)]
 
 pub mod covered_text;
@@ -20,11 +20,12 @@ pub mod outcome_text;
 mod report_form;
 pub mod run_answer;
 pub mod stats;
-mod stats_json;
 mod stats_text;
 pub mod text_line;
+pub mod totals_text;
 mod verdict_text;
 pub mod verdicts;
 pub mod watch;
-pub mod world_json;
+mod world_json;
+mod world_lines;
 pub mod world_text;

@@ -1,19 +1,18 @@
-//! The objects of an outcome: those of the jobs are written in pieces, and those after them to a text.
+//! What each job did, in objects, which are written in pieces.
 
 ghost use Rattle.std.specs.Prelude.{◌≡◌, ◌+◌, ◌≤◌, ◌++◌, length, string_bytes, OnOk};
 ghost use Rattle.std.specs.List.{flat_map};
 ghost use Rattle.ebpf_command.specs.Json.{later_number, number_list};
 ghost use Rattle.ebpf_command.specs.Writing.{Puts};
-ghost use Rattle.ebpf_report.specs.OutcomeObjects.{exit_member, job_members, job_object, cache_members, cache_object, cache_objects, shelf_object, shelf_objects};
+ghost use Rattle.ebpf_report.specs.OutcomeObjects.{exit_member, job_members, job_object};
 
 use crate::report_form::ReportForm;
 use crate::text_line::TextLine;
 use ebpf_command::done::EngineFault;
 use ebpf_command::piece::Piece;
-use object_cache::Totals;
 use std::alloc::AllocError;
 use std::io::Write;
-use worker_pool::{JobReport, ShelfTotals};
+use worker_pool::JobReport;
 
 /// Reports as objects.
 #[derive(Drop)]
@@ -139,86 +138,4 @@ fn write_exit(line: &mut TextLine, exit: Option<u64>)
         line.number(exit);
         line.words(b",\"exit\":");
     }
-}
-
-/// Writes the cache of each kind after a text, and then each shelf that was used. It fails only where an allocation fails.
-pub(crate) fn write_total_objects(
-    text: &mut String,
-    totals: &[Totals; 3],
-    shelves: &[ShelfTotals; 3],
-) -> Result<(), AllocError>
-    ensures { OnOk result (string_bytes text.new ≡ string_bytes text.old ++ (cache_objects totals.now ++ shelf_objects shelves.now)) }
-{
-    write_caches(text, totals)?;
-    write_shelves(text, shelves)
-}
-
-// Writes what the cache of each kind did.
-fn write_caches(text: &mut String, totals: &[Totals; 3]) -> Result<(), AllocError>
-    ensures { OnOk result (string_bytes text.new ≡ string_bytes text.old ++ cache_objects totals.now) }
-{
-    let [cells, records, blocks] = totals;
-    write_cache(text, "cell", cells)?;
-    write_cache(text, "record", records)?;
-    write_cache(text, "block", blocks)
-}
-
-// Writes what a cache did.
-fn write_cache(text: &mut String, name: &str, totals: &Totals) -> Result<(), AllocError>
-    ensures { OnOk result (string_bytes text.new ≡ string_bytes text.old ++ cache_object name.now totals.now) }
-{
-    let Totals {
-        allocs,
-        frees,
-        nulls,
-        missing,
-        ..
-    } = *totals;
-    write_cache_object(text, name, allocs, frees, nulls, missing)
-}
-
-/// Writes the object of a cache after a text. It fails only where an allocation fails.
-pub fn write_cache_object(
-    text: &mut String,
-    name: &str,
-    allocs: u64,
-    frees: u64,
-    nulls: u64,
-    missing: u64,
-) -> Result<(), AllocError>
-    ensures { OnOk result (string_bytes text.new ≡ string_bytes text.old ++ cache_members name.now allocs frees nulls missing) }
-{
-    write!(
-        text,
-        "{{\"cache\":\"{name}\",\"allocs\":{allocs},\"frees\":{frees},\"nulls\":{nulls},\"missing\":{missing}}}\n"
-    )
-}
-
-/// Writes what the shelf of each kind did, after a text. It fails only where an allocation fails.
-pub fn write_shelves(text: &mut String, shelves: &[ShelfTotals; 3]) -> Result<(), AllocError>
-    ensures { OnOk result (string_bytes text.new ≡ string_bytes text.old ++ shelf_objects shelves.now) }
-{
-    let [cells, records, blocks] = shelves;
-    write_shelf(text, 0, cells)?;
-    write_shelf(text, 1, records)?;
-    write_shelf(text, 2, blocks)
-}
-
-// Writes what a shelf did, where an object was put there.
-fn write_shelf(text: &mut String, shelf: u8, totals: &ShelfTotals) -> Result<(), AllocError>
-    ensures { OnOk result (string_bytes text.new ≡ string_bytes text.old ++ shelf_object shelf totals.now) }
-{
-    let ShelfTotals {
-        puts,
-        gets,
-        left,
-        ..
-    } = totals;
-    if *puts == 0 {
-        return Ok(());
-    }
-    write!(
-        text,
-        "{{\"shelf\":{shelf},\"puts\":{puts},\"gets\":{gets},\"left\":{left}}}\n"
-    )
 }

@@ -6,9 +6,10 @@ ghost use Rattle.ebpf_command.specs.declared.done.EngineFault.TheVariants.{Outpu
 ghost use Rattle.ebpf_command.specs.Writing.{AppendsBeginning, Puts};
 ghost use Rattle.ebpf_report.specs.RunAnswers.{jobs_in, jobs_text, run_text, totals_in};
 
-use crate::outcome_json::{ReportObjects, write_total_objects};
-use crate::outcome_text::{ReportLines, write_totals};
+use crate::outcome_json::ReportObjects;
+use crate::outcome_text::ReportLines;
 use crate::report_form::put_each;
+use crate::totals_text::write_totals;
 use ebpf_command::answer::Answer;
 use ebpf_command::done::{Done, EngineFault};
 use ebpf_command::format::Format;
@@ -101,8 +102,5 @@ pub fn write_totals_in(
 ) -> Result<(), AllocError>
     ensures { OnOk result (string_bytes text.new ≡ string_bytes text.old ++ totals_in format outcome.now) }
 {
-    match format {
-        Format::Text => write_totals(text, &outcome.totals, &outcome.shelves),
-        Format::Json => write_total_objects(text, &outcome.totals, &outcome.shelves),
-    }
+    write_totals(text, format, &outcome.totals, &outcome.shelves)
 }

@@ -1,13 +1,12 @@
 //! A meter that takes the time of each stage, and makes a table of it and of what it learns.
 
 ghost use Rattle.std.specs.Prelude.{◌≡◌, ◌++◌, None, string_bytes, OnOk};
-ghost use Rattle.ebpf_report.specs.Tables.{misses_if, table_if, table_in};
+ghost use Rattle.ebpf_report.specs.Tables.{misses_if, table_if};
 ghost use Rattle.ebpf_report.specs.Timing.{micros_between, with_time};
 
 use crate::meter::{Meter, Stage};
 use crate::outcome_stats::stats_of;
 use crate::stats::Stats;
-use crate::stats_json::write_table_objects;
 use crate::stats_text::write_table;
 use ebpf_command::format::Format;
 use std::alloc::AllocError;
@@ -70,7 +69,7 @@ impl<'a, C: Clock> Watch<'a, C> {
         ensures { OnOk result (string_bytes text.new ≡ string_bytes text.old ++ table_if format self.now.stats self.now.times) }
     {
         match &self.stats {
-            Some(stats) => write_table_in(text, format, stats, self.times),
+            Some(stats) => write_table(text, format, stats, self.times),
             None => Ok(()),
         }
     }
@@ -109,21 +108,6 @@ impl<'a, C: Clock> Meter for Watch<'a, C> {
         let (reports, stats) = stats_of(outcome);
         self.stats = Some(stats);
         reports
-    }
-}
-
-// Writes the table after a text.
-fn write_table_in(
-    text: &mut String,
-    format: Format,
-    stats: &Stats,
-    times: Times,
-) -> Result<(), AllocError>
-    ensures { OnOk result (string_bytes text.new ≡ string_bytes text.old ++ table_in format stats.now times) }
-{
-    match format {
-        Format::Text => write_table(text, stats, times),
-        Format::Json => write_table_objects(text, stats, times),
     }
 }
 

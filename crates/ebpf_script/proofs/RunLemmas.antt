@@ -8,7 +8,6 @@ use Rattle.ebpf_command.specs.declared.done.Done.{Done}
 use Rattle.ebpf_command.specs.declared.done.EngineFault.{EngineFault}
 use Rattle.ebpf_command.specs.declared.done.EngineFault.TheVariants.{Output}
 use Rattle.ebpf_command.specs.declared.format.Format.{Format}
-use Rattle.ebpf_command.specs.declared.format.Format.TheVariants.{Text, Json}
 use Rattle.ebpf_command.specs.Input.{read_of}
 use Rattle.ebpf_command.specs.Response.{Response}
 use Rattle.ebpf_command.specs.Writing.{Responding, AppendsBeginning, Writes, WritesBeginning}
@@ -38,11 +37,6 @@ module _ (Responds : Responding) (cuts : CutsLong Responds) (input old new : Opt
 
 -- ---- the text of an outcome
 
--- it is that of the jobs and what follows
-outcome_parts : (format : Format) (o : JobsOutcome) → outcome_in format o ≡ jobs_in format o.reports ++ totals_in format o
-outcome_parts Text o = refl
-outcome_parts Json o = refl
-
 -- what was covered follows that
 pub run_text_is : (format : Format) (o : JobsOutcome) (before covered after : List ℕ) (reports : List Report) → reports ≡ o.reports → after ≡ totals_in format o ++ covered
     → before ++ (jobs_in format reports ++ after) ≡ before ++ (outcome_in format o ++ covered)
@@ -50,5 +44,4 @@ run_text_is format o before covered after reports same is =
     ap (λ (xs : List ℕ). before ++ xs)
     (ap (λ (rs : List Report). jobs_in format rs ++ after) same
     ∙ ap (λ (xs : List ℕ). jobs_in format o.reports ++ xs) is
-    ∙ sym (append_assoc (jobs_in format o.reports) (totals_in format o) covered)
-    ∙ ap (λ (xs : List ℕ). xs ++ covered) (sym (outcome_parts format o)))
+    ∙ sym (append_assoc (jobs_in format o.reports) (totals_in format o) covered))

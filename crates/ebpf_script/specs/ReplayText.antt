@@ -14,8 +14,7 @@ use Rattle.ebpf_reader.specs.declared.script.Dialect.TheVariants.{Events}
 use Rattle.ebpf_reader.specs.Scripts.{parsed_text}
 use Rattle.ebpf_report.specs.ScriptText.{Doing, RespondsScript}
 use Rattle.ebpf_report.specs.Verdicts.{verdict_lines, accepted_of}
-use Rattle.ebpf_report.specs.WorldLines.{world_lines}
-use Rattle.ebpf_report.specs.WorldObjects.{world_objects}
+use Rattle.ebpf_report.specs.WorldText.{world_in}
 use Rattle.ebpf_script.specs.EventCodes.{apply_name}
 
 -- an event is not legal, for this cause; events count from 0
@@ -28,10 +27,6 @@ stopped_object index code = codes "{\"stopped\":\"" ++ (apply_name code ++ (code
 abbrev pub stopped_in : Format → ℕ → ApplyCode → List ℕ
 stopped_in Text index code = stopped_line index code
 stopped_in Json index code = stopped_object index code
-
-abbrev pub world_in : Format → World → List ℕ
-world_in Text w = world_lines w
-world_in Json w = world_objects w
 
 -- after the verdicts, the world after the events, or where they stop
 abbrev pub world_response : Format → List ℕ → Result World (ℕ × Illegal) → Response

@@ -7,15 +7,13 @@ use Rattle.worker_pool.specs.declared.jobs.Job.{Job}
 use Rattle.worker_pool.specs.Outcomes.{JobsOutcome}
 use Rattle.worker_pool.specs.Outcomes.{IsOutcome}
 use Rattle.ebpf_command.specs.declared.format.Format.{Format}
-use Rattle.ebpf_command.specs.declared.format.Format.TheVariants.{Text, Json}
 use Rattle.ebpf_command.specs.Response.{clean_response}
 use Rattle.ebpf_command.specs.Writing.{Responding}
 use Rattle.ebpf_reader.specs.declared.script.Dialect.TheVariants.{Jobs}
 use Rattle.ebpf_reader.specs.ParsedScript.{Named}
 use Rattle.ebpf_reader.specs.Scripts.{parsed_text}
 use Rattle.ebpf_report.specs.CoveredLines.{covered_lines}
-use Rattle.ebpf_report.specs.OutcomeLines.{outcome_lines}
-use Rattle.ebpf_report.specs.OutcomeObjects.{outcome_objects}
+use Rattle.ebpf_report.specs.RunAnswers.{jobs_in, totals_in}
 use Rattle.ebpf_report.specs.ScriptText.{Doing, RespondsScript}
 use Rattle.ebpf_report.specs.Verdicts.{verdict_lines, accepted_of}
 
@@ -27,8 +25,7 @@ pub record MayCome (programs : List Subject) (jobs : List Job) (o : JobsOutcome)
   pub is : IsOutcome programs jobs before after o
 
 abbrev pub outcome_in : Format → JobsOutcome → List ℕ
-outcome_in Text o = outcome_lines o
-outcome_in Json o = outcome_objects o
+outcome_in format o = jobs_in format o.reports ++ totals_in format o
 
 -- the text of an outcome, and where that is asked for what the jobs executed
 abbrev pub outcome_text : Bool → Format → List Named → List Subject → List Job → JobsOutcome → List ℕ

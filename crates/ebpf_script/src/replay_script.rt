@@ -7,7 +7,7 @@ ghost use Rattle.ebpf_machine.specs.Kinds.{AreKnown};
 ghost use Rattle.ebpf_command.specs.Writing.{Performs};
 ghost use Rattle.ebpf_reader.specs.ReadScripts.{parsed_script};
 ghost use Rattle.ebpf_report.specs.ScriptText.{RespondsScript};
-ghost use Rattle.ebpf_script.specs.ReplayText.{RespondsReplay, DoesReplay, world_response, world_in, stopped_line, stopped_object, stopped_in};
+ghost use Rattle.ebpf_script.specs.ReplayText.{RespondsReplay, DoesReplay, world_response, stopped_line, stopped_object, stopped_in};
 
 use crate::event_codes::apply_name;
 use ebpf_command::answer::{Answer, answer_fault_in, respond};
@@ -20,7 +20,6 @@ use ebpf_core::world::World;
 use ebpf_reader::read_script::read_script;
 use ebpf_reader::script::{Dialect, Script, ScriptStop};
 use ebpf_report::verdicts::verdicts_on;
-use ebpf_report::world_json::write_world_objects;
 use ebpf_report::world_text::write_world;
 use ebpf_verify::verified::Verified;
 use std::alloc::{AllocError, Global};
@@ -90,7 +89,7 @@ fn answer_events(
     let mut text = text;
     match replay_events(alloc, programs, events) {
         Ok(world) => {
-            write_world_in(&mut text, format, &world)?;
+            write_world(&mut text, format, &world)?;
             Ok(Answer {
                 text,
                 done: Done::Clean,
@@ -104,16 +103,6 @@ fn answer_events(
             })
         }
         Err(ReplayFault::NoMemory) => Err(AllocError),
-    }
-}
-
-// Writes a world after a text.
-fn write_world_in(text: &mut String, format: Format, world: &World<'_>) -> Result<(), AllocError>
-    ensures { OnOk result (OfWorld world.now (λ w. string_bytes text.new ≡ string_bytes text.old ++ world_in format w)) }
-{
-    match format {
-        Format::Text => write_world(text, world),
-        Format::Json => write_world_objects(text, world),
     }
 }
 

@@ -14,7 +14,7 @@ use crate::hands::Hands;
 use crate::ledgers::Names;
 use crate::stock::Stock;
 use crate::supply::Supplies;
-use ebpf_object::{KindName, Object, Offer, kind_named, offer};
+use ebpf_object::{KindName, Object, Offer, kind_named};
 use object_cache::ArenaLock;
 use slab_layer::{BlockKind, CellKind, RecordKind};
 use std::sync::Wait;
@@ -99,7 +99,7 @@ impl<'a, L: Names> Stocks<'a, L> {
         ensures kind { IfSome result (λ o. kind_of o ≡ shelf) }
         ensures moved { HasMoved shelf 0 0 0 (one_if given) (one_if result) (hands_of self.old) (hands_of self.new) }
     {
-        match offer(shelf, given) {
+        match Offer::to(shelf, given) {
             Offer::Cells(given) => self.cells.swap(rt, given).map(Object::Cell),
             Offer::Records(given) => self.records.swap(rt, given).map(Object::Record),
             Offer::Blocks(given) => self.blocks.swap(rt, given).map(Object::Block),

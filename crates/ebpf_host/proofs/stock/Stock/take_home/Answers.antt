@@ -8,21 +8,21 @@ use Rattle.ebpf_host.proofs.stock.Stock.take_home.Goals as goal
 
 pub invariant_of-self-2 : goal.invariant_of-self-2
 invariant_of-self-2 g c =
-    let grown = c.if-not-grow.ensures.grown refl in
+    let grown = c.in-Ok.ensures.grown in
     let taken = c.in-Some-take in
     stands_taken (λ o. o.slot) c.self.inside.shelf c.self.inside.slabs c.take-2.new.self taken.object.slot
-    (takes_grown c.self.inside.slabs c.take.new.self c.grow.new.slabs c.take-2.new.self grown.page (4096 / g.K.Kind.SIZE) taken.object.slot
+    (takes_grown c.self.inside.slabs c.take.new.self c.grow_from.new.self c.take-2.new.self grown.page (4096 / g.K.Kind.SIZE) taken.object.slot
     c.in_default.ensures.unchanged grown.not_had grown.added taken.ensures.was_home taken.ensures.moved)
     c.self.invariant
 
 pub returns-clause-taken : goal.returns-clause-taken
 returns-clause-taken g c =
-    let grown = c.if-not-grow.ensures.grown refl in
+    let grown = c.in-Ok.ensures.grown in
     let taken = c.in-Some-take in
     let out : TakesOut c.self.inside.slabs c.take-2.new.self taken.object.slot =
-    takes_grown c.self.inside.slabs c.take.new.self c.grow.new.slabs c.take-2.new.self grown.page (4096 / g.K.Kind.SIZE) taken.object.slot
+    takes_grown c.self.inside.slabs c.take.new.self c.grow_from.new.self c.take-2.new.self grown.page (4096 / g.K.Kind.SIZE) taken.object.slot
     c.in_default.ensures.unchanged grown.not_had grown.added taken.ensures.was_home taken.ensures.moved in
-    let more = c.if-not-grow.ensures.counted refl in
+    let more = c.in-Ok.ensures.counted in
     let same = ap out_count c.in_default.ensures.unchanged in
     let one = taken.ensures.counted in
     let counts : out_count c.take-2.new.self ≡ out_count c.self.inside.slabs + 1 = omega (arith, one, more, same) in

@@ -1,7 +1,0 @@
-use Rattle.std.proofs.Common.{◌≡◌, ◌++◌, string_bytes}
-use Rattle.ebpf_core.specs.Shown.{OfWorld}
-use Rattle.ebpf_report.specs.WorldObjects.{run_objects_below}
-use Rattle.ebpf_report.proofs.world_json.write_runs.Given as goal
-
-abbrev pub invariant-loop-run : goal.invariant-loop-run
-invariant-loop-run l = OfWorld l.world (λ w. string_bytes l.text ≡ string_bytes l.fn.text ++ run_objects_below l.run w)
