@@ -6,6 +6,7 @@ use Rattle.std.proofs.lemmas.List.Elements.{All-push, All-nil}
 use Rattle.std.proofs.lemmas.List.Quantifiers.{Any-push}
 use Rattle.std.proofs.lemmas.List.Sums.{sum_by_push}
 use Rattle.owners_table.proofs.Joining.{all_front, all_last}
+use Rattle.worker_pool.specs.EachKind.{AreOneMore}
 use Rattle.worker_pool.specs.declared.worker.Ending.{Ending}
 use Rattle.worker_pool.specs.declared.worker.Ending.TheVariants.{Through, Unstarted, OutOfMemory}
 use Rattle.worker_pool.specs.declared.worker.Worker.{Worker}
@@ -13,8 +14,8 @@ use Rattle.worker_pool.specs.declared.hands.Tools.{Tools}
 use Rattle.worker_pool.specs.declared.crew.Parts.{Parts}
 use Rattle.worker_pool.specs.declared.crew.Done.{Done}
 use Rattle.worker_pool.specs.Crews.{AreDismissed, ArePartsOf, HaveNone, IsBack, tools_or, tools_in, hands_in, seat_in, clashes_in, strays_in}
-use Rattle.worker_pool.specs.Hands.{AreOneMore}
-use Rattle.worker_pool.proofs.Pairs.{pushed, all_made_more}
+use Rattle.worker_pool.proofs.EachKind.{all_made_more, none_made}
+use Rattle.worker_pool.proofs.Pairs.{pushed}
 use Rattle.worker_pool.proofs.Turned.{sum_turned, length_turned, all_turned, any_before, any_turned}
 
 module _ {L : Type 0} where
@@ -104,11 +105,7 @@ module _ {L : Type 0} where
     done = [];
     split = sym (append-nil all);
     parts = record {
-      hands = record {
-        cells = record { hands = none.hands.cells.none.hands; shelf_hands = none.hands.cells.none.shelf_hands };
-        records = record { hands = none.hands.records.none.hands; shelf_hands = none.hands.records.none.shelf_hands };
-        blocks = record { hands = none.hands.blocks.none.hands; shelf_hands = none.hands.blocks.none.shelf_hands };
-      };
+      hands = none_made hands_in (length all) p.hands none.hands;
       seats = none.seats.0;
       drawers = none.drawers.0;
       answered = none.answered.0;

@@ -5,7 +5,6 @@ pub mod Holding
 pub mod Claiming
 pub mod Sums
 pub mod Answering
-pub mod Evens
 pub mod Exchanging
 pub mod Passing
 pub mod Pairs
@@ -22,4 +21,5 @@ pub mod Searching
 pub mod Admitting
 pub mod Packing
 pub mod Admitted
+pub mod EachKind
 pub mod Outcoming

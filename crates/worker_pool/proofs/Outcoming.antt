@@ -1,5 +1,5 @@
 -- What comes of the jobs, from what all workers did and where the bundles were put.
-use Rattle.std.proofs.Common.{◌≡◌, ◌≤◌, ◌<◌, ◌+◌, ◌*◌, min, ℕ, zero, suc, Some, All, Contains, List, [], ◌∷◌, length, slice_get, slice_index_or, map, refl, sym, ap, subst, ◌∙◌, arith}
+use Rattle.std.proofs.Common.{◌≡◌, ◌≤◌, ◌<◌, ◌+◌, ◌*◌, min, ℕ, Some, All, Contains, List, [], ◌∷◌, length, slice_get, slice_index_or, map, refl, sym, ap, subst, ◌∙◌, arith}
 use Rattle.std.specs.Prelude.{sum_by, vec_len}
 use Rattle.std.specs.List.{flat_map}
 use Rattle.std.proofs.lemmas.List.{length-map}
@@ -13,6 +13,7 @@ use Rattle.ebpf_machine.proofs.Lists.Mapped.{Contains-mapped}
 use Rattle.object_cache.specs.declared.totals.Totals.{Totals}
 use Rattle.owners_table.specs.Owning.{OwnersView, SeatView}
 use Rattle.owners_table.specs.Drawing.{TicketsView, times_drawn}
+use Rattle.worker_pool.specs.EachKind.{AreClosed}
 use Rattle.worker_pool.specs.declared.worker.Ending.TheVariants.{Through}
 use Rattle.worker_pool.specs.declared.jobs.Answered.{Answered}
 use Rattle.worker_pool.specs.declared.jobs.Bundle.{Bundle}
@@ -22,26 +23,16 @@ use Rattle.worker_pool.specs.Numbering.{bundles_in, numbered, times_of, told_by,
 use Rattle.worker_pool.specs.declared.crew.Parts.{Parts}
 use Rattle.worker_pool.specs.declared.crew.Done.{Done}
 use Rattle.worker_pool.specs.declared.outcome.ShelfTotals.{ShelfTotals}
-use Rattle.worker_pool.specs.declared.hands.FreePairs.{FreePairs}
 use Rattle.worker_pool.specs.Outcomes.{IsOutcome, AreReportsFor, IsReportFor, IsEvenTotal, IsEvenShelf, allocs_in, nulls_in, gets_in, left_in, granted_in, refused_in, fetched_in, JobsOutcome}
-use Rattle.worker_pool.specs.Supplies.{IsClosed, AreClosed}
 use Rattle.worker_pool.specs.Places.{IsThere, Kept, all_in, bundles_of, counted, weight, weight_in, weight_of}
-use Rattle.worker_pool.specs.Serving.{AreServed, AreEven, all_allocs, all_nulls, all_gets, reports_of}
+use Rattle.worker_pool.specs.Serving.{AreServed, all_allocs, all_nulls, all_gets, reports_of}
 use Rattle.worker_pool.specs.Working.{Answers, granted_by, refused_by, fetched_by}
+use Rattle.worker_pool.proofs.EachKind.{closed_allocs, closed_even, closed_gets, closed_nulls, closed_shelves}
 use Rattle.worker_pool.proofs.Flat.{all_flat, all_lists, sum_flat}
 use Rattle.worker_pool.proofs.Gathered.{all_len, all_told}
 use Rattle.worker_pool.proofs.NumberingLemmas.{numbered_at, numbered_weight}
 use Rattle.worker_pool.proofs.Shares.{sum_same}
 use Rattle.worker_pool.proofs.Turned.{sum_mapped}
-
-all_three : {X : Type 0} (P : X → Type 0) (a b c : X) → P a → P b → P c → All P (a ∷ b ∷ c ∷ [])
-all_three P a b c pa pb pc zero d l = pa
-all_three P a b c pa pb pc (suc zero) d l = pb
-all_three P a b c pa pb pc (suc (suc zero)) d l = pc
-all_three P a b c pa pb pc (suc (suc (suc k))) d l = absurd (omega (arith, l))
-
-sum_three : {X : Type 0} (h : X → ℕ) (a b c : X) → sum_by h (a ∷ b ∷ c ∷ []) ≡ h a + h b + h c
-sum_three h a b c = omega (arith, sum_by-cons h a (b ∷ c ∷ []), sum_by-cons h b (c ∷ []), sum_by-cons h c [])
 
 ones : {X : Type 0} (xs : List X) → sum_by (λ x. 1) xs ≡ length xs
 ones [] = refl
@@ -60,15 +51,6 @@ told_weight : (h : Report → ℕ) (size : ℕ) (bundles : List Bundle) → weig
 told_weight h size bundles =
     sum_flat (told_of size) (λ n. h n.report) bundles
     ∙ sum_same (λ b. weight_of h (told_of size b)) (λ b. sum_by h b.reports.items) bundles (λ i d l. let b = slice_index_or bundles i d in numbered_weight h (b.number * size) b.reports.items)
-
-module _ {K L : Type 0} (count : ℕ) (f : FreePairs K L) (shelf : ShelfTotals) (t : Totals) (even : AreEven count f) (closed : IsClosed f shelf t) where
-  even_total : IsEvenTotal t
-  even_total =
-      let same : t.frees ≡ t.allocs = omega (arith, closed.frees, closed.allocs, even.even, closed.puts, closed.gets, closed.shelf_balance) in
-      record { back = same; none_missing = omega (arith, same, closed.balance) }
-
-  even_shelf : IsEvenShelf shelf
-  even_shelf = record { balance = closed.shelf_balance; one = closed.one }
 
 module _ {L : Type 0} (programs : List Subject) (jobs : List Job) (o : OwnersView) (size : ℕ) (t : TicketsView) (seats : List SeatView) (p : Parts L) (done : Done)
     (through : done.ending ≡ Through) (s : AreServed programs jobs o size t seats p done) where
@@ -148,18 +130,12 @@ module _ {L : Type 0} (programs : List Subject) (jobs : List Job) (o : OwnersVie
           → IsOutcome programs jobs seats after out
       outcome after shelves ts closed out reports_are totals_are clashes_are shelves_are strays_are jobs_are = record {
         reports = subst (AreReportsFor programs jobs) (sym reports_are) (record { all = reports_len; each = report_for });
-        even = subst (All IsEvenTotal) (sym three) (all_three IsEvenTotal closed.cells closed.records closed.blocks
-            (even_total (length seats) p.hands.cells closed.cell_shelf closed.cells s.cells closed.cells_closed)
-            (even_total (length seats) p.hands.records closed.record_shelf closed.records s.records closed.records_closed)
-            (even_total (length seats) p.hands.blocks closed.block_shelf closed.blocks s.blocks closed.blocks_closed));
+        even = subst (All IsEvenTotal) (sym totals_are) (closed_even o p.hands p.seats.items after shelves ts closed (length seats) s.even);
         granted = omega (arith, allocs, s.granted, granted_sum, clashes_are);
         refused = omega (arith, nulls, s.refused, refused_sum, clashes_are);
         noted = omega (arith, allocs, s.noted, closed.noted);
         lost = omega (arith, s.lost, clashes_are, closed.lost);
-        shelves = subst (All IsEvenShelf) (sym three_shelves) (all_three IsEvenShelf closed.cell_shelf closed.record_shelf closed.block_shelf
-            (even_shelf (length seats) p.hands.cells closed.cell_shelf closed.cells s.cells closed.cells_closed)
-            (even_shelf (length seats) p.hands.records closed.record_shelf closed.records s.records closed.records_closed)
-            (even_shelf (length seats) p.hands.blocks closed.block_shelf closed.blocks s.blocks closed.blocks_closed));
+        shelves = subst (All IsEvenShelf) (sym shelves_are) (closed_shelves o p.hands p.seats.items after shelves ts closed (length seats) s.even);
         fetched = omega (arith, gets, s.fetched, fetched_sum, strays_are);
         fetches =
             let left = ap left_in shelves_are in
@@ -167,29 +143,17 @@ module _ {L : Type 0} (programs : List Subject) (jobs : List Job) (o : OwnersVie
         workers = ap length jobs_are ∙ length-map p.answered.items (λ a. counted a.bundles.items) ∙ s.answered_all;
         jobs_done = ap (λ ns. sum_by (λ n. n) ns) jobs_are ∙ sum_mapped (λ n. n) (λ a. counted a.bundles.items) p.answered.items ∙ all_counted;
       } where
-        three_shelves : out.shelves ≡ closed.cell_shelf ∷ closed.record_shelf ∷ closed.block_shelf ∷ []
-        three_shelves = shelves_are ∙ closed.shelves_are
-
         gets : gets_in out.shelves ≡ all_gets p
-        gets =
-            let sum = ap gets_in three_shelves ∙ sum_three (λ (t : ShelfTotals). t.gets) closed.cell_shelf closed.record_shelf closed.block_shelf in
-            omega (arith, sum, closed.cells_closed.gets, closed.records_closed.gets, closed.blocks_closed.gets)
+        gets = ap gets_in shelves_are ∙ closed_gets o p.hands p.seats.items after shelves ts closed
 
         fetched_sum : fetched_in out.reports ≡ sum_by fetched_by (reports_of size p)
         fetched_sum = ap fetched_in reports_are ∙ summed (λ r. fetched r.answers)
 
-        three : out.totals ≡ closed.cells ∷ closed.records ∷ closed.blocks ∷ []
-        three = totals_are ∙ closed.totals_are
-
         allocs : allocs_in out.totals ≡ all_allocs p
-        allocs =
-            let sum = ap allocs_in three ∙ sum_three (λ (t : Totals). t.allocs) closed.cells closed.records closed.blocks in
-            omega (arith, sum, closed.cells_closed.allocs, closed.records_closed.allocs, closed.blocks_closed.allocs)
+        allocs = ap allocs_in totals_are ∙ closed_allocs o p.hands p.seats.items after shelves ts closed
 
         nulls : nulls_in out.totals ≡ all_nulls p
-        nulls =
-            let sum = ap nulls_in three ∙ sum_three (λ (t : Totals). t.nulls) closed.cells closed.records closed.blocks in
-            omega (arith, sum, closed.cells_closed.nulls, closed.records_closed.nulls, closed.blocks_closed.nulls)
+        nulls = ap nulls_in totals_are ∙ closed_nulls o p.hands p.seats.items after shelves ts closed
 
         granted_sum : granted_in out.reports ≡ sum_by granted_by (reports_of size p)
         granted_sum = ap granted_in reports_are ∙ summed (λ r. granted r.answers)

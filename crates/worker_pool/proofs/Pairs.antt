@@ -1,15 +1,20 @@
--- A pair of hands more, and one less.
-use Rattle.std.proofs.Common.{◌≡◌, ◌≤◌, ◌<◌, ◌+◌, ◌-◌, ℕ, All, List, [], ◌∷◌, ◌++◌, length, map, sym, ap, subst, ◌∙◌, arith, length-append}
-use Rattle.std.proofs.lemmas.List.{map_push}
+-- Pairs of hands of one kind: one more, one less, and all that were made.
+use Rattle.std.proofs.Common.{◌≡◌, ◌≤◌, ◌<◌, ◌+◌, ◌-◌, ◌^◌, ℕ, All, List, [], ◌∷◌, ◌++◌, length, map, sym, ap, subst, ◌∙◌, arith, length-append}
+use Rattle.std.specs.Prelude.{reverse, sum_by, vec_len, vec_capacity}
+use Rattle.std.proofs.lemmas.List.{map_push, length-map}
 use Rattle.std.proofs.lemmas.List.Elements.{All-push}
 use Rattle.owners_table.proofs.Joining.{all_front, all_last}
-use Rattle.object_cache.specs.HandView.{fresh}
-use Rattle.object_cache.specs.ShelfView.{new_hand}
+use Rattle.object_cache.specs.HandView.{HandView, fresh}
+use Rattle.object_cache.specs.ShelfView.{ShelfHandView, new_hand}
+use Rattle.object_cache.specs.declared.totals.Totals.{Totals}
+use Rattle.worker_pool.specs.declared.outcome.ShelfTotals.{ShelfTotals}
+use Rattle.worker_pool.specs.declared.supply.Supply.{Supply}
+use Rattle.worker_pool.specs.Outcomes.{IsEvenShelf, IsEvenTotal}
+use Rattle.worker_pool.specs.Supplies.{HasMade, IsClosed, IsOpened}
+use Rattle.worker_pool.proofs.Shares.{part_len, part_sum, sum_even}
 use Rattle.worker_pool.specs.declared.hands.HandPair.{HandPair}
-use Rattle.worker_pool.specs.declared.hands.Hands.{Hands}
 use Rattle.worker_pool.specs.declared.hands.FreePairs.{FreePairs}
-use Rattle.worker_pool.specs.declared.hands.FreeHands.{FreeHands}
-use Rattle.worker_pool.specs.Hands.{AreAlike, AreUnused, AreMadeOf, HasRoom, HasPlace, IsOneMore, unused_pair, unused_hands, AllAreUnused, AllAreMadeOf, HaveRoom, AreOneMore}
+use Rattle.worker_pool.specs.Hands.{AreAlike, AreEven, AreUnused, AreMadeOf, HasHand, HasRoom, HasPlace, IsEvenPair, IsOneMore, out_of, unused_pair}
 
 pub at_most : (n old new : ℕ) → n ≤ old → new ≡ old → n ≤ new
 at_most n old new fits same = omega (arith, fits, same)
@@ -46,7 +51,13 @@ alike_rest one x count done xs ys some are is = record {
   unused = rest_all (λ y. y ≡ one) count done xs ys x is some are.all are.unused;
 }
 
--- ---- of one kind
+-- what is parted from the workers so far leaves room for one worker's more
+pub fits : {A W : Type 0} (items : List A) (f : W → A) (done left rest : List W) (w : W) (n all room : ℕ) → n ≡ length items
+    → items ≡ map f done → length done + length left ≡ all → left ≡ rest ++ w ∷ [] → all ≤ room → n < room
+fits items f done left rest w n all room many are sum is holds =
+    let same = ap length are ∙ length-map done f in
+    let more = ap length is ∙ length-append rest (w ∷ []) in
+    omega (arith, many, same, sum, more, holds)
 
 module _ {K L : Type 0} where
   pub one_unused : (count : ℕ) (f f' : FreePairs K L) (p : HandPair K L) → AreUnused count f → IsOneMore f f' p → p.hand ≡ fresh
@@ -69,71 +80,85 @@ module _ {K L : Type 0} where
     shelf_hands = omega (arith, f.shelf_hands.ok.0, are.shelf_hands.all, room.shelf_hands, below);
   }
 
-  room_before : (count : ℕ) (f f' : FreePairs K L) (p : HandPair K L) → HasRoom count f' → IsOneMore f f' p → HasRoom count f
+  pub room_before : (count : ℕ) (f f' : FreePairs K L) (p : HandPair K L) → HasRoom count f' → IsOneMore f f' p → HasRoom count f
   room_before count f f' p room more = record {
     hands = at_most count _ _ room.hands (sym more.capacity);
     shelf_hands = at_most count _ _ room.shelf_hands (sym more.shelf_capacity);
   }
 
-  rest_unused : (count done : ℕ) (f f' : FreePairs K L) (p : HandPair K L) → done < count → AreUnused (count - done) f'
+  pub rest_unused : (count done : ℕ) (f f' : FreePairs K L) (p : HandPair K L) → done < count → AreUnused (count - done) f'
       → IsOneMore f f' p → AreUnused (count - (done + 1)) f
   rest_unused count done f f' p some are more = record {
     hands = alike_rest fresh p.hand count done f'.hands.items f.hands.items some are.hands more.hands;
     shelf_hands = alike_rest new_hand p.shelf_hand count done f'.shelf_hands.items f.shelf_hands.items some are.shelf_hands more.shelf_hands;
   }
 
-  last_unused : (count done : ℕ) (f f' : FreePairs K L) (p : HandPair K L) → done < count → AreUnused (count - done) f' → IsOneMore f f' p → p ≡ unused_pair
+  pub last_unused : (count done : ℕ) (f f' : FreePairs K L) (p : HandPair K L) → done < count → AreUnused (count - done) f' → IsOneMore f f' p → p ≡ unused_pair
   last_unused count done f f' p some are more =
       let hand : p.hand ≡ fresh = last_is (λ h. h ≡ fresh) count done f'.hands.items f.hands.items p.hand more.hands some are.hands.all are.hands.unused in
       let shelf_hand : p.shelf_hand ≡ new_hand = last_is (λ h. h ≡ new_hand) count done f'.shelf_hands.items f.shelf_hands.items p.shelf_hand more.shelf_hands some are.shelf_hands.all are.shelf_hands.unused in
       ap (λ h. record { hand = h; shelf_hand = p.shelf_hand }) hand ∙ ap (λ s. record { hand = fresh; shelf_hand = s }) shelf_hand
 
-  made_more : {W : Type 0} (g : W → HandPair K L) (done : List W) (w : W) (f f' : FreePairs K L) (p : HandPair K L)
+  pub made_more : {W : Type 0} (g : W → HandPair K L) (done : List W) (w : W) (f f' : FreePairs K L) (p : HandPair K L)
       → AreMadeOf g done f → IsOneMore f f' p → g w ≡ p → AreMadeOf g (done ++ w ∷ []) f'
   made_more g done w f f' p are more same = record {
     hands = pushed (λ v. (g v).hand) done w _ _ _ are.hands more.hands (ap (λ (q : HandPair K L). q.hand) same);
     shelf_hands = pushed (λ v. (g v).shelf_hand) done w _ _ _ are.shelf_hands more.shelf_hands (ap (λ (q : HandPair K L). q.shelf_hand) same);
   }
 
--- ---- of each kind
-
-module _ {L : Type 0} where
-  pub same_rooms : (count : ℕ) (f f' : FreeHands L) (h : Hands L) → HaveRoom count f → AreOneMore f f' h → HaveRoom count f'
-  same_rooms count f f' h room more = record {
-    cells = same_room count _ _ _ room.cells more.cells;
-    records = same_room count _ _ _ room.records more.records;
-    blocks = same_room count _ _ _ room.blocks more.blocks;
+  -- what is parted from the workers so far leaves room for one pair more
+  pub place_left : {W : Type 0} (g : W → HandPair K L) (done left rest : List W) (w : W) (all : ℕ) (f : FreePairs K L) → AreMadeOf g done f
+      → length done + length left ≡ all → left ≡ rest ++ w ∷ [] → HasRoom all f → HasPlace f
+  place_left g done left rest w all f made sum is room = record {
+    hands = fits f.hands.items (λ v. (g v).hand) done left rest w (vec_len f.hands) all (vec_capacity f.hands) f.hands.ok.0 made.hands sum is room.hands;
+    shelf_hands = fits f.shelf_hands.items (λ v. (g v).shelf_hand) done left rest w (vec_len f.shelf_hands) all (vec_capacity f.shelf_hands)
+        f.shelf_hands.ok.0 made.shelf_hands sum is room.shelf_hands;
   }
 
-  pub rooms_before : (count : ℕ) (f f' : FreeHands L) (h : Hands L) → HaveRoom count f' → AreOneMore f f' h → HaveRoom count f
-  rooms_before count f f' h room more = record {
-    cells = room_before count _ _ _ room.cells more.cells;
-    records = room_before count _ _ _ room.records more.records;
-    blocks = room_before count _ _ _ room.blocks more.blocks;
-  }
+  -- the hands that came back are those that were made, and there are some
+  module _ (count n : ℕ) (s : Supply K L) (f f' : FreePairs K L) (opened : IsOpened count s f) (even : AreEven n f') where
+    pub has_made : n ≡ count → HasMade s f'
+    has_made same = record {
+      hands = omega (arith, f'.hands.ok.0, even.all, same, opened.made);
+      shelf_hands = omega (arith, f'.shelf_hands.ok.0, even.all_shelf, same, opened.shelf_made);
+    }
 
-  pub rest_all_unused : (count done : ℕ) (f f' : FreeHands L) (h : Hands L) → done < count → AllAreUnused (count - done) f'
-      → AreOneMore f f' h → AllAreUnused (count - (done + 1)) f
-  rest_all_unused count done f f' h some are more = record {
-    cells = rest_unused count done _ _ _ some are.cells more.cells;
-    records = rest_unused count done _ _ _ some are.records more.records;
-    blocks = rest_unused count done _ _ _ some are.blocks more.blocks;
-  }
+    pub has_hand : 0 < n → HasHand f'
+    has_hand some = record {
+      hands = omega (arith, f'.hands.ok.0, even.all, some);
+      shelf_hands = omega (arith, f'.shelf_hands.ok.0, even.all_shelf, some);
+    }
 
-  pub last_all_unused : (count done : ℕ) (f f' : FreeHands L) (h : Hands L) → done < count → AllAreUnused (count - done) f'
-      → AreOneMore f f' h → h ≡ unused_hands
-  last_all_unused count done f f' h some are more =
-      let cells = last_unused count done _ _ _ some are.cells more.cells in
-      let records = last_unused count done _ _ _ some are.records more.records in
-      let blocks = last_unused count done _ _ _ some are.blocks more.blocks in
-      ap (λ c. record { cells = c; records = h.records; blocks = h.blocks }) cells
-      ∙ ap (λ r. record { cells = unused_pair; records = r; blocks = h.blocks }) records
-      ∙ ap (λ b. record { cells = unused_pair; records = unused_pair; blocks = b }) blocks
+  -- each pair is even, and so are they together
+  module _ {W : Type 0} (pair_of : W → HandPair K L) (ws : List W) (f : FreePairs K L) (made : AreMadeOf pair_of (reverse ws) f) where
+    pub sum_hands : (h : HandView → ℕ) → sum_by h f.hands.items ≡ sum_by (λ w. h (pair_of w).hand) ws
+    sum_hands h = part_sum (λ w. (pair_of w).hand) ws f.hands.items made.hands h
 
-  pub all_made_more : {W : Type 0} (g : W → Hands L) (done : List W) (w : W) (f f' : FreeHands L) (h : Hands L)
-      → AllAreMadeOf g done f → AreOneMore f f' h → g w ≡ h → AllAreMadeOf g (done ++ w ∷ []) f'
-  all_made_more g done w f f' h are more same = record {
-    cells = made_more (λ v. (g v).cells) done w _ _ _ are.cells more.cells (ap (λ (k : Hands L). k.cells) same);
-    records = made_more (λ v. (g v).records) done w _ _ _ are.records more.records (ap (λ (k : Hands L). k.records) same);
-    blocks = made_more (λ v. (g v).blocks) done w _ _ _ are.blocks more.blocks (ap (λ (k : Hands L). k.blocks) same);
-  }
+    pub sum_shelf_hands : (h : ShelfHandView → ℕ) → sum_by h f.shelf_hands.items ≡ sum_by (λ w. h (pair_of w).shelf_hand) ws
+    sum_shelf_hands h = part_sum (λ w. (pair_of w).shelf_hand) ws f.shelf_hands.items made.shelf_hands h
+
+    pub even_pairs : (count : ℕ) → length ws ≡ count → All (λ w. IsEvenPair (pair_of w)) ws → AreEven count f
+    even_pairs count len each = record {
+      all = part_len (λ w. (pair_of w).hand) ws f.hands.items made.hands ∙ len;
+      all_shelf = part_len (λ w. (pair_of w).shelf_hand) ws f.shelf_hands.items made.shelf_hands ∙ len;
+      even =
+          let sums = sum_even (λ w. (pair_of w).hand.frees) (λ w. (pair_of w).shelf_hand.puts) (λ w. (pair_of w).hand.allocs) (λ w. (pair_of w).shelf_hand.gets) ws each in
+          omega (arith, sums, sum_hands (λ h. h.frees), sum_shelf_hands (λ h. h.puts), sum_hands (λ h. h.allocs), sum_shelf_hands (λ h. h.gets));
+    }
+
+  -- a cache that is closed over even pairs got back what it gave
+  module _ (count : ℕ) (f : FreePairs K L) (shelf : ShelfTotals) (t : Totals) (even : AreEven count f) (closed : IsClosed f shelf t) where
+    pub even_total : IsEvenTotal t
+    even_total =
+        let same : t.frees ≡ t.allocs = omega (arith, closed.frees, closed.allocs, even.even, closed.puts, closed.gets, closed.shelf_balance) in
+        record { back = same; none_missing = omega (arith, same, closed.balance) }
+
+    pub even_shelf : IsEvenShelf shelf
+    even_shelf = record { balance = closed.shelf_balance; one = closed.one }
+
+  -- what a pair of hands gave away is few
+  abbrev AreFew : HandPair K L → Type 0
+  AreFew p = (p.hand.frees ≤ 2 ^ 56) × (p.shelf_hand.puts ≤ 2 ^ 56)
+
+  pub one_even : (p p' : HandPair K L) → AreFew p → AreFew p' → out_of p' ≡ out_of p → IsEvenPair p → IsEvenPair p'
+  one_even p p' few few' same even = omega (arith, few.0, few.1, few'.0, few'.1, same, even)

@@ -5,10 +5,10 @@ use Rattle.std.proofs.lemmas.List.{map_push, reverse-append, append_assoc}
 use Rattle.owners_table.specs.Owning.{OwnersView}
 use Rattle.owners_table.specs.Drawing.{TicketsView, TicketView}
 use Rattle.owners_table.specs.Drawing as drawing
+use Rattle.worker_pool.specs.EachKind.{HaveRoom, unused_hands}
 use Rattle.worker_pool.specs.declared.worker.Worker.{Worker}
 use Rattle.worker_pool.specs.declared.hands.Tools.{Tools}
 use Rattle.worker_pool.specs.declared.crew.Parts.{Parts}
-use Rattle.worker_pool.specs.Hands.{HaveRoom, unused_hands}
 use Rattle.worker_pool.specs.Numbering.{IsBlank}
 use Rattle.worker_pool.specs.Outcomes.{IsIdle}
 use Rattle.worker_pool.specs.Working.{IsFresh}

@@ -8,8 +8,7 @@ use Rattle.slab_layer.specs.Kinds.{Row, IsRow}
 use Rattle.owners_table.specs.Owning.{OwnersView, SeatView}
 use Rattle.worker_pool.specs.Claims.{lost}
 use Rattle.worker_pool.specs.Supplies.{HasReturned, HasFetched}
-use Rattle.worker_pool.specs.Outcomes.{IsIdle, noted_by, lost_by, fetches_by, left_in}
-use Rattle.worker_pool.specs.declared.outcome.ShelfTotals.{ShelfTotals}
+use Rattle.worker_pool.specs.Outcomes.{IsIdle, noted_by, lost_by, fetches_by}
 
 -- a kind's number is that of a shelf
 pub number_below : (r : Row) → IsRow r → r.number < 3
@@ -88,6 +87,3 @@ module _ (o : OwnersView) (count : ℕ) (seats : List SeatView) (s s' : SeatView
 
   pub seats_fetched : fetches_by (slice_set seats 0 s') ≡ fetches_by seats + count
   seats_fetched = let e = first_sum (λ v. length v.fetches) seats s s' some is in omega (arith, e, f.fetches)
-
-pub left_three : (a b c : ShelfTotals) → left_in (a ∷ b ∷ c ∷ []) ≡ a.left + b.left + c.left
-left_three a b c = omega (arith, sum_by-cons (λ (t : ShelfTotals). t.left) a (b ∷ c ∷ []), sum_by-cons (λ (t : ShelfTotals). t.left) b (c ∷ []), sum_by-cons (λ (t : ShelfTotals). t.left) c [])

@@ -2,36 +2,29 @@
 use Rattle.std.proofs.Common.{◌≡◌, ◌≢◌, ◌+◌, ℕ, true, All, List, length, map, reverse, slice_index_or, sym, ap, subst, ◌∙◌, arith}
 use Rattle.std.specs.Prelude.{sum_by}
 use Rattle.ebpf_verify.specs.Subject.{Subject}
-use Rattle.object_cache.specs.HandView.{HandView}
-use Rattle.object_cache.specs.ShelfView.{ShelfHandView}
 use Rattle.owners_table.specs.Owning.{OwnersView, SeatView}
 use Rattle.owners_table.specs.Drawing.{TicketsView, IsOf, times}
+use Rattle.worker_pool.specs.EachKind.{all_allocs, all_nulls, all_gets, IsEven}
 use Rattle.worker_pool.specs.declared.worker.Ending.TheVariants.{Through, OutOfMemory}
 use Rattle.worker_pool.specs.declared.jobs.Job.{Job}
 use Rattle.worker_pool.specs.declared.jobs.Answered.{Answered}
 use Rattle.worker_pool.specs.Numbering.{IsWhole, Numbered, bundles_in, times_of, told_by}
 use Rattle.worker_pool.specs.declared.worker.Worker.{Worker}
-use Rattle.slab_layer.specs.declared.kind.CellKind.{CellKind}
-use Rattle.slab_layer.specs.declared.kind.RecordKind.{RecordKind}
-use Rattle.slab_layer.specs.declared.kind.BlockKind.{BlockKind}
-use Rattle.worker_pool.specs.declared.hands.HandPair.{HandPair}
-use Rattle.worker_pool.specs.declared.hands.FreePairs.{FreePairs}
 use Rattle.worker_pool.specs.declared.hands.Tools.{Tools}
 use Rattle.worker_pool.specs.declared.crew.Parts.{Parts}
 use Rattle.worker_pool.specs.declared.crew.Done.{Done}
 use Rattle.worker_pool.specs.Bundles.{AreAsDrawn}
 use Rattle.worker_pool.specs.Claims.{lost}
 use Rattle.worker_pool.specs.Crews.{AreDismissed, IsBack, tools_or, tools_in, hands_in, seat_in, clashes_in, strays_in}
-use Rattle.worker_pool.specs.Counts.{all_allocs, all_nulls, all_gets}
-use Rattle.worker_pool.specs.Hands.{AreMadeOf}
 use Rattle.worker_pool.specs.Outcomes.{IsIdle}
 use Rattle.worker_pool.specs.Places.{bundles_of}
-use Rattle.worker_pool.specs.Serving.{AreEven, AreServed, all_allocs as all_free_allocs, all_nulls as all_free_nulls, all_gets as all_free_gets, reports_of}
-use Rattle.worker_pool.specs.Working.{IsEven, IsEvenPair, IsFresh, IsDone, AreDone, Answers, HasDrawn, granted_by, refused_by, fetched_by}
+use Rattle.worker_pool.specs.Serving.{AreServed, all_allocs as all_free_allocs, all_nulls as all_free_nulls, all_gets as all_free_gets, reports_of}
+use Rattle.worker_pool.specs.Working.{IsFresh, IsDone, AreDone, Answers, HasDrawn, granted_by, refused_by, fetched_by}
 use Rattle.worker_pool.proofs.Bundles.{one_if}
+use Rattle.worker_pool.proofs.EachKind.{all_even, sum_allocs, sum_gets, sum_nulls}
 use Rattle.worker_pool.proofs.Flat.{all_flat, sum_flat}
 use Rattle.worker_pool.proofs.Turned.{sum_turned, sum_mapped, all_mapped, any_also, as_many}
-use Rattle.worker_pool.proofs.Shares.{sum_same, three_sums, sum_two, sum_two_less, sum_even, sum_grown, all_by_index, part_sum, part_all, part_any, part_len, drawn_by, passed_by, through_not_out}
+use Rattle.worker_pool.proofs.Shares.{sum_same, sum_two, sum_two_less, sum_grown, all_by_index, part_sum, part_all, part_any, part_len, drawn_by, passed_by, through_not_out}
 
 module _ {L : Type 0} (programs : List Subject) (jobs : List Job) (o : OwnersView) (size : ℕ) (t : TicketsView) where
   abbrev allocs_in : Worker L → ℕ
@@ -163,56 +156,14 @@ module _ {L : Type 0} (programs : List Subject) (jobs : List Job) (o : OwnersVie
       count : length news ≡ length seats
       count = len ∙ as_many seat_in olds seats seats_are
 
-      -- of one kind, whose pair of a worker this is
-      module _ {K : Type 0} (pair_of : Worker L → HandPair K L) (f : FreePairs K L) (made : AreMadeOf pair_of (reverse news) f) where
-        sum_hands : (h : HandView → ℕ) → sum_by h f.hands.items ≡ sum_by (λ w. h (pair_of w).hand) news
-        sum_hands h = part_sum (λ w. (pair_of w).hand) news f.hands.items made.hands h
-
-        sum_shelf_hands : (h : ShelfHandView → ℕ) → sum_by h f.shelf_hands.items ≡ sum_by (λ w. h (pair_of w).shelf_hand) news
-        sum_shelf_hands h = part_sum (λ w. (pair_of w).shelf_hand) news f.shelf_hands.items made.shelf_hands h
-
-        even_pairs : All (λ w. IsEvenPair (pair_of w)) news → AreEven (length seats) f
-        even_pairs each = record {
-          all = part_len (λ w. (pair_of w).hand) news f.hands.items made.hands ∙ count;
-          all_shelf = part_len (λ w. (pair_of w).shelf_hand) news f.shelf_hands.items made.shelf_hands ∙ count;
-          even =
-              let sums = sum_even (λ w. (pair_of w).hand.frees) (λ w. (pair_of w).shelf_hand.puts) (λ w. (pair_of w).hand.allocs) (λ w. (pair_of w).shelf_hand.gets) news each in
-              omega (arith, sums, sum_hands (λ h. h.frees), sum_shelf_hands (λ h. h.puts), sum_hands (λ h. h.allocs), sum_shelf_hands (λ h. h.gets));
-        }
-
-      abbrev cells_in : Worker L → HandPair CellKind L
-      cells_in w = (hands_in w).cells
-
-      abbrev records_in : Worker L → HandPair RecordKind L
-      records_in w = (hands_in w).records
-
-      abbrev blocks_in : Worker L → HandPair BlockKind L
-      blocks_in w = (hands_in w).blocks
-
-      hands_three : (h : HandView → ℕ) → sum_by (λ w. h (cells_in w).hand + h (records_in w).hand + h (blocks_in w).hand) news
-          ≡ sum_by h p.hands.cells.hands.items + sum_by h p.hands.records.hands.items + sum_by h p.hands.blocks.hands.items
-      hands_three h = omega (
-        arith,
-        three_sums (λ w. h (cells_in w).hand) (λ w. h (records_in w).hand) (λ w. h (blocks_in w).hand) news,
-        sum_hands cells_in p.hands.cells dismissed.parts.hands.cells h,
-        sum_hands records_in p.hands.records dismissed.parts.hands.records h,
-        sum_hands blocks_in p.hands.blocks dismissed.parts.hands.blocks h,
-      )
-
       allocs_three : sum_by allocs_in news ≡ all_free_allocs p
-      allocs_three = hands_three (λ h. h.allocs)
+      allocs_three = sum_allocs hands_in news p.hands dismissed.parts.hands
 
       nulls_three : sum_by nulls_in news ≡ all_free_nulls p
-      nulls_three = hands_three (λ h. h.nulls)
+      nulls_three = sum_nulls hands_in news p.hands dismissed.parts.hands
 
       gets_three : sum_by gets_in news ≡ all_free_gets p
-      gets_three = omega (
-        arith,
-        three_sums (λ w. (cells_in w).shelf_hand.gets) (λ w. (records_in w).shelf_hand.gets) (λ w. (blocks_in w).shelf_hand.gets) news,
-        sum_shelf_hands cells_in p.hands.cells dismissed.parts.hands.cells (λ h. h.gets),
-        sum_shelf_hands records_in p.hands.records dismissed.parts.hands.records (λ h. h.gets),
-        sum_shelf_hands blocks_in p.hands.blocks dismissed.parts.hands.blocks (λ h. h.gets),
-      )
+      gets_three = sum_gets hands_in news p.hands dismissed.parts.hands
 
       reported : (h : List Numbered → ℕ) → sum_by h (reports_of size p) ≡ sum_by (λ w. h (told_by size w.answered)) news
       reported h = sum_mapped h (told_by size) p.answered.items ∙ part_sum (λ w. w.answered) news p.answered.items dismissed.parts.answered (λ a. h (told_by size a))
@@ -229,9 +180,7 @@ module _ {L : Type 0} (programs : List Subject) (jobs : List Job) (o : OwnersVie
 
       pub all_served : AreServed programs jobs o size t seats p done
       all_served = record {
-        cells = even_pairs cells_in p.hands.cells dismissed.parts.hands.cells (λ i d l. (shares i d l).even.cells);
-        records = even_pairs records_in p.hands.records dismissed.parts.hands.records (λ i d l. (shares i d l).even.records);
-        blocks = even_pairs blocks_in p.hands.blocks dismissed.parts.hands.blocks (λ i d l. (shares i d l).even.blocks);
+        even = all_even hands_in news p.hands dismissed.parts.hands (length seats) count (λ i d l. (shares i d l).even);
         seats_all = part_len seat_in news p.seats.items dismissed.parts.seats ∙ count;
         idle = part_all seat_in news p.seats.items dismissed.parts.seats (IsIdle o) (λ i d l. (shares i d l).idle);
         noted = omega (arith, after_noted (λ s. length s.notes), all_noted, before_noted (λ s. length s.notes), allocs_three);

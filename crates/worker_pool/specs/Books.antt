@@ -2,7 +2,6 @@
 use Rattle.std.specs.Prelude.{◌≡◌, ℕ}
 use Rattle.std.specs.declared.sync.ledger.Blank.{Blank}
 use Rattle.worker_pool.specs.declared.supply.KindBlanks.{KindBlanks}
-use Rattle.worker_pool.specs.declared.supply.Blanks.{Blanks}
 
 -- the blank is the one that a ledger of this name means, of 65 parts: a part for each of 64 hands, and one that stays
 abbrev pub IsFor : Blank → ℕ → Type 0
@@ -15,20 +14,9 @@ pub record AreFor (outs ins puts gets : ℕ) (b : KindBlanks) : Type 0 where
   pub puts_for : IsFor b.puts puts
   pub gets_for : IsFor b.gets gets
 
--- so are those of each kind, by the kinds' numbers
-pub record AreAllFor (outs ins puts gets : ℕ → ℕ) (b : Blanks) : Type 0 where
-  pub cells : AreFor (outs 0) (ins 0) (puts 0) (gets 0) b.cells
-  pub records : AreFor (outs 1) (ins 1) (puts 1) (gets 1) b.records
-  pub blocks : AreFor (outs 2) (ins 2) (puts 2) (gets 2) b.blocks
-
 -- all four of a kind have that many parts
 pub record AreWhole (b : KindBlanks) : Type 0 where
   pub outs : b.outs.parts ≡ 65
   pub ins : b.ins.parts ≡ 65
   pub puts : b.puts.parts ≡ 65
   pub gets : b.gets.parts ≡ 65
-
-pub record AreAllWhole (b : Blanks) : Type 0 where
-  pub cells : AreWhole b.cells
-  pub records : AreWhole b.records
-  pub blocks : AreWhole b.blocks

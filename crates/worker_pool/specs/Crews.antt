@@ -4,14 +4,13 @@ use Rattle.owners_table.specs.Owning.{OwnersView, SeatView}
 use Rattle.owners_table.specs.Owning as owning
 use Rattle.owners_table.specs.Drawing.{TicketsView, TicketView}
 use Rattle.owners_table.specs.Drawing as drawing
+use Rattle.worker_pool.specs.EachKind.{AllAreUnused, AllAreMadeOf, AreNone, unused_hands, AreOpened}
 use Rattle.worker_pool.specs.Bundles.{IsBundleSize}
-use Rattle.worker_pool.specs.Hands.{AllAreUnused, AllAreMadeOf, AreNone, unused_hands}
 use Rattle.worker_pool.specs.Numbering.{IsBlank, bundles_in}
 use Rattle.worker_pool.specs.Outcomes.{IsIdle}
-use Rattle.worker_pool.specs.Supplies.{AreOpened}
 use Rattle.worker_pool.specs.declared.crew.Done.{Done}
 use Rattle.worker_pool.specs.declared.crew.Parts.{Parts}
-use Rattle.worker_pool.specs.declared.hands.Hands.{Hands}
+use Rattle.worker_pool.specs.declared.each_kind.Hands.{Hands}
 use Rattle.worker_pool.specs.declared.hands.Tools.{Tools}
 use Rattle.worker_pool.specs.declared.setup.Setup.{Setup}
 use Rattle.worker_pool.specs.declared.worker.Ending.TheVariants.{Through, OutOfMemory}

@@ -6,14 +6,14 @@ use Rattle.ebpf_machine.specs.declared.report.Reply.{Reply}
 use Rattle.ebpf_machine.specs.declared.report.Report.{Report}
 use Rattle.ebpf_machine.specs.Whole.{granted, refused, fetched, is_granted, is_null, is_fetched}
 use Rattle.ebpf_verify.specs.Subject.{Subject}
+use Rattle.worker_pool.specs.EachKind.{all_allocs, all_gets, hands_of}
 use Rattle.worker_pool.specs.declared.hands.Tools.{Tools}
 use Rattle.worker_pool.specs.declared.jobs.Job.{Job}
 use Rattle.worker_pool.specs.Numbering.{Numbered, numbered}
 use Rattle.worker_pool.specs.declared.client.Client.{Client}
-use Rattle.worker_pool.specs.declared.stocks.Stocks.{Stocks}
+use Rattle.worker_pool.specs.declared.each_kind.Stocks.{Stocks}
 use Rattle.worker_pool.specs.Claims.{lost}
-use Rattle.worker_pool.specs.Counts.{all_allocs, all_gets, grants_of, nulls_of, gets_of}
-use Rattle.worker_pool.specs.Stocks.{hands_of}
+use Rattle.worker_pool.specs.Counts.{grants_of, nulls_of, gets_of}
 use Rattle.worker_pool.specs.Working.{Answers, granted_by, refused_by, fetched_by}
 
 -- the tools that a store of these stocks and this client is made of, as they are now

@@ -1,11 +1,9 @@
--- Hands of each kind, and those that no worker has.
-use Rattle.std.specs.Prelude.{◌≡◌, ◌≤◌, ◌<◌, ℕ, List, [], ◌∷◌, ◌++◌, All, length, map, vec_len, vec_capacity}
+-- Hands of one kind, and those that no worker has.
+use Rattle.std.specs.Prelude.{◌≡◌, ◌≤◌, ◌<◌, ◌+◌, ◌-◌, ◌^◌, ℕ, List, [], ◌∷◌, ◌++◌, All, length, map, sum_by, vec_len, vec_capacity}
 use Rattle.object_cache.specs.HandView.{fresh}
 use Rattle.object_cache.specs.ShelfView.{new_hand}
 use Rattle.worker_pool.specs.declared.hands.HandPair.{HandPair}
-use Rattle.worker_pool.specs.declared.hands.Hands.{Hands}
 use Rattle.worker_pool.specs.declared.hands.FreePairs.{FreePairs}
-use Rattle.worker_pool.specs.declared.hands.FreeHands.{FreeHands}
 
 -- that many, each like this one
 pub record AreAlike {X : Type 0} (count : ℕ) (one : X) (xs : List X) : Type 0 where
@@ -61,43 +59,28 @@ module _ {K L : Type 0} where
     pub hands : f.hands.items ≡ map (λ w. (pair_of w).hand) ws
     pub shelf_hands : f.shelf_hands.items ≡ map (λ w. (pair_of w).shelf_hand) ws
 
--- ---- of each kind
+  -- How many objects of a kind are out by its hands' doing, counted from 2^57 on: of frees and of puts there are at most 2^56, and of
+  -- a store's counts only what they grow by is said.
+  abbrev pub out_of : HandPair K L → ℕ
+  out_of p = (p.hand.allocs + p.shelf_hand.gets + 2 ^ 57) - (p.hand.frees + p.shelf_hand.puts)
 
-module _ {L : Type 0} where
-  abbrev pub unused_hands : Hands L
-  unused_hands = record { cells = unused_pair; records = unused_pair; blocks = unused_pair }
+  -- what the hands took from the cache and got from the shelf went back there or onto the shelf
+  abbrev pub IsEvenPair : HandPair K L → Type 0
+  IsEvenPair p = p.hand.frees + p.shelf_hand.puts ≡ p.hand.allocs + p.shelf_hand.gets
 
-  pub record AllAreUnused (count : ℕ) (f : FreeHands L) : Type 0 where
-    pub cells : AreUnused count f.cells
-    pub records : AreUnused count f.records
-    pub blocks : AreUnused count f.blocks
+  -- how often hands were given an object, and how often they were refused one
+  abbrev pub allocs_by : FreePairs K L → ℕ
+  allocs_by f = sum_by (λ h. h.allocs) f.hands.items
 
-  pub record HaveRoom (count : ℕ) (f : FreeHands L) : Type 0 where
-    pub cells : HasRoom count f.cells
-    pub records : HasRoom count f.records
-    pub blocks : HasRoom count f.blocks
+  abbrev pub nulls_by : FreePairs K L → ℕ
+  nulls_by f = sum_by (λ h. h.nulls) f.hands.items
 
-  pub record AreNone (count : ℕ) (f : FreeHands L) : Type 0 where
-    pub cells : IsNone count f.cells
-    pub records : IsNone count f.records
-    pub blocks : IsNone count f.blocks
+  -- how often objects were got off shelves
+  abbrev pub gets_by : FreePairs K L → ℕ
+  gets_by f = sum_by (λ h. h.gets) f.shelf_hands.items
 
-  pub record HaveHands (f : FreeHands L) : Type 0 where
-    pub cells : HasHand f.cells
-    pub records : HasHand f.records
-    pub blocks : HasHand f.blocks
-
-  pub record HavePlaces (f : FreeHands L) : Type 0 where
-    pub cells : HasPlace f.cells
-    pub records : HasPlace f.records
-    pub blocks : HasPlace f.blocks
-
-  pub record AreOneMore (f f' : FreeHands L) (h : Hands L) : Type 0 where
-    pub cells : IsOneMore f.cells f'.cells h.cells
-    pub records : IsOneMore f.records f'.records h.records
-    pub blocks : IsOneMore f.blocks f'.blocks h.blocks
-
-  pub record AllAreMadeOf {W : Type 0} (hands_of : W → Hands L) (ws : List W) (f : FreeHands L) : Type 0 where
-    pub cells : AreMadeOf (λ w. (hands_of w).cells) ws f.cells
-    pub records : AreMadeOf (λ w. (hands_of w).records) ws f.records
-    pub blocks : AreMadeOf (λ w. (hands_of w).blocks) ws f.blocks
+  -- what the hands took from the cache and got from the shelf went back there or onto the shelf
+  pub record AreEven (count : ℕ) (f : FreePairs K L) : Type 0 where
+    pub all : length f.hands.items ≡ count
+    pub all_shelf : length f.shelf_hands.items ≡ count
+    pub even : sum_by (λ h. h.frees) f.hands.items + sum_by (λ h. h.puts) f.shelf_hands.items ≡ allocs_by f + gets_by f

@@ -13,7 +13,7 @@ pub mod Numbering
 pub mod Outcomes
 pub mod Places
 pub mod Serving
-pub mod Stocks
+pub mod EachKind
 pub mod Supplies
 pub mod JobLists
 pub mod Working

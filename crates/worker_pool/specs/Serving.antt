@@ -4,46 +4,24 @@ use Rattle.ebpf_verify.specs.Subject.{Subject}
 use Rattle.owners_table.specs.Owning.{OwnersView, SeatView}
 use Rattle.owners_table.specs.Drawing.{TicketsView, IsOf, times_drawn}
 use Rattle.worker_pool.specs.declared.worker.Ending.TheVariants.{Through}
-use Rattle.worker_pool.specs.declared.hands.FreePairs.{FreePairs}
 use Rattle.worker_pool.specs.declared.jobs.Job.{Job}
 use Rattle.worker_pool.specs.Numbering.{IsWhole, Numbered, bundles_in, times_of, told_by}
 use Rattle.worker_pool.specs.declared.crew.Parts.{Parts}
 use Rattle.worker_pool.specs.declared.crew.Done.{Done}
+use Rattle.worker_pool.specs.EachKind.{AllAreEven, free_allocs, free_nulls, free_gets}
 use Rattle.worker_pool.specs.Outcomes.{IsIdle, noted_by, lost_by, fetches_by}
 use Rattle.worker_pool.specs.Places.{bundles_of}
 use Rattle.worker_pool.specs.Working.{Answers, granted_by, refused_by, fetched_by}
 
--- ---- of one kind
-
-module _ {K L : Type 0} where
-  -- how often hands were given an object, and how often they were refused one
-  abbrev pub allocs_of : FreePairs K L → ℕ
-  allocs_of f = sum_by (λ h. h.allocs) f.hands.items
-
-  abbrev pub nulls_of : FreePairs K L → ℕ
-  nulls_of f = sum_by (λ h. h.nulls) f.hands.items
-
-  -- how often objects were got off shelves
-  abbrev pub gets_of : FreePairs K L → ℕ
-  gets_of f = sum_by (λ h. h.gets) f.shelf_hands.items
-
-  -- what the hands took from the cache and got from the shelf went back there or onto the shelf
-  pub record AreEven (count : ℕ) (f : FreePairs K L) : Type 0 where
-    pub all : length f.hands.items ≡ count
-    pub all_shelf : length f.shelf_hands.items ≡ count
-    pub even : sum_by (λ h. h.frees) f.hands.items + sum_by (λ h. h.puts) f.shelf_hands.items ≡ allocs_of f + gets_of f
-
--- ---- of each kind
-
 module _ {L : Type 0} where
   abbrev pub all_allocs : Parts L → ℕ
-  all_allocs p = allocs_of p.hands.cells + allocs_of p.hands.records + allocs_of p.hands.blocks
+  all_allocs p = free_allocs p.hands
 
   abbrev pub all_nulls : Parts L → ℕ
-  all_nulls p = nulls_of p.hands.cells + nulls_of p.hands.records + nulls_of p.hands.blocks
+  all_nulls p = free_nulls p.hands
 
   abbrev pub all_gets : Parts L → ℕ
-  all_gets p = gets_of p.hands.cells + gets_of p.hands.records + gets_of p.hands.blocks
+  all_gets p = free_gets p.hands
 
   -- the reports that each worker made
   abbrev pub reports_of : (size : ℕ) → Parts L → List (List Numbered)
@@ -53,9 +31,7 @@ module _ {L : Type 0} where
   -- bundle was answered as often as it was drawn.
   pub record AreServed (programs : List Subject) (jobs : List Job) (o : OwnersView) (size : ℕ) (t : TicketsView) (seats : List SeatView)
       (p : Parts L) (done : Done) : Type 0 where
-    pub cells : AreEven (length seats) p.hands.cells
-    pub records : AreEven (length seats) p.hands.records
-    pub blocks : AreEven (length seats) p.hands.blocks
+    pub even : AllAreEven (length seats) p.hands
     pub seats_all : length p.seats.items ≡ length seats
     pub idle : All (IsIdle o) p.seats.items
     pub noted : noted_by p.seats.items ≡ noted_by seats + all_allocs p

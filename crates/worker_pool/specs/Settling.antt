@@ -4,19 +4,18 @@ use Rattle.std.specs.Prelude.{◌≡◌, ◌≤◌, ◌<◌, List, [], length, R
 use Rattle.std.specs.declared.alloc.AllocError.{AllocError}
 use Rattle.ebpf_verify.specs.Subject.{Subject}
 use Rattle.owners_table.specs.Owning.{OwnersView, SeatView}
+use Rattle.worker_pool.specs.EachKind.{HaveHands, HaveMade}
 use Rattle.worker_pool.specs.declared.crew.Done.{Done}
 use Rattle.worker_pool.specs.declared.crew.Parts.{Parts}
 use Rattle.worker_pool.specs.declared.jobs.Job.{Job}
 use Rattle.worker_pool.specs.declared.outcome.TheConstants.{MAX_JOBS}
 use Rattle.worker_pool.specs.declared.setup.Room.{Room}
-use Rattle.worker_pool.specs.declared.supply.Supplies.{Supplies}
+use Rattle.worker_pool.specs.declared.each_kind.Supplies.{Supplies}
 use Rattle.worker_pool.specs.Bundles.{IsBundleSize}
 use Rattle.worker_pool.specs.Numbering.{bundles_in}
-use Rattle.worker_pool.specs.Hands.{HaveHands}
 use Rattle.worker_pool.specs.Outcomes.{AreIdleAgain, IsOutcome, JobsOutcome}
 use Rattle.worker_pool.specs.Places.{Kept}
 use Rattle.worker_pool.specs.Serving.{AreServed}
-use Rattle.worker_pool.specs.Supplies.{HaveMade}
 
 -- the room, the supplies, the parts of workers that had these seats and did these jobs, and memory for the places of their bundles
 pub record AreLeft {L : Type 0} (programs : List Subject) (jobs : List Job) (o : OwnersView) (before : List SeatView)

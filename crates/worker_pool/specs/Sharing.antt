@@ -7,7 +7,7 @@ use Rattle.worker_pool.specs.declared.crew.Parts.{Parts}
 use Rattle.worker_pool.specs.declared.jobs.Job.{Job}
 use Rattle.worker_pool.specs.declared.outcome.Host.{Host}
 use Rattle.worker_pool.specs.declared.setup.Room.{Room}
-use Rattle.worker_pool.specs.declared.supply.Supplies.{Supplies}
+use Rattle.worker_pool.specs.declared.each_kind.Supplies.{Supplies}
 use Rattle.worker_pool.specs.declared.worker.Shared.{Shared}
 use Rattle.worker_pool.specs.declared.worker.Worker.{Worker}
 use Rattle.worker_pool.specs.Places.{Kept}

@@ -1,15 +1,12 @@
--- Supplies as they are opened and as they are closed.
-use Rattle.std.specs.Prelude.{◌≡◌, ◌+◌, ◌≤◌, ℕ, List, [], ◌∷◌, All, length, sum_by, vec_len}
+-- A supply as it is opened and as it is closed.
+use Rattle.std.specs.Prelude.{◌≡◌, ◌+◌, ◌≤◌, ℕ, length, sum_by, vec_len}
 use Rattle.object_cache.specs.HandView.{HandView}
 use Rattle.object_cache.specs.declared.totals.Totals.{Totals}
-use Rattle.owners_table.specs.Owning.{OwnersView, SeatView}
+use Rattle.owners_table.specs.Owning.{SeatView}
 use Rattle.worker_pool.specs.declared.hands.FreePairs.{FreePairs}
-use Rattle.worker_pool.specs.declared.hands.FreeHands.{FreeHands}
 use Rattle.worker_pool.specs.declared.outcome.ShelfTotals.{ShelfTotals}
 use Rattle.worker_pool.specs.declared.supply.Supply.{Supply}
-use Rattle.worker_pool.specs.declared.supply.Supplies.{Supplies}
 use Rattle.worker_pool.specs.Hands.{AreUnused}
-use Rattle.worker_pool.specs.Outcomes.{IsIdle, noted_by, lost_by, fetches_by, left_in}
 
 -- ---- of one kind
 
@@ -48,36 +45,3 @@ pub record HasFetched (count : ℕ) (s s' : SeatView) : Type 0 where
   pub held : s'.held ≡ s.held
   pub notes : s'.notes ≡ s.notes
   pub fetches : length s'.fetches ≡ length s.fetches + count
-
--- ---- of each kind
-
-module _ {L : Type 0} where
-  pub record HaveMade (s : Supplies L) (f : FreeHands L) : Type 0 where
-    pub cells : HasMade s.cells f.cells
-    pub records : HasMade s.records f.records
-    pub blocks : HasMade s.blocks f.blocks
-
-  pub record AreOpened (count : ℕ) (s : Supplies L) (f : FreeHands L) : Type 0 where
-    pub cells : IsOpened count s.cells f.cells
-    pub records : IsOpened count s.records f.records
-    pub blocks : IsOpened count s.blocks f.blocks
-
-  -- each was closed, in the order of the kinds' numbers, and what the shelves held went back by these seats, which are as idle as
-  -- before
-  pub record AreClosed (o : OwnersView) (f : FreeHands L) (seats seats' : List SeatView) (ss : List ShelfTotals) (ts : List Totals) : Type 0 where
-    pub cell_shelf : ShelfTotals
-    pub record_shelf : ShelfTotals
-    pub block_shelf : ShelfTotals
-    pub shelves_are : ss ≡ cell_shelf ∷ record_shelf ∷ block_shelf ∷ []
-    pub cells : Totals
-    pub records : Totals
-    pub blocks : Totals
-    pub totals_are : ts ≡ cells ∷ records ∷ blocks ∷ []
-    pub cells_closed : IsClosed f.cells cell_shelf cells
-    pub records_closed : IsClosed f.records record_shelf records
-    pub blocks_closed : IsClosed f.blocks block_shelf blocks
-    pub all : length seats' ≡ length seats
-    pub idle : All (IsIdle o) seats'
-    pub noted : noted_by seats' ≡ noted_by seats
-    pub lost : lost_by seats' ≡ lost_by seats
-    pub fetches : fetches_by seats' ≡ fetches_by seats + left_in ss

@@ -3,6 +3,7 @@ use Rattle.std.specs.Prelude.{◌≡◌, ◌≢◌, ◌<◌, ◌≤◌, ◌+◌,
 use Rattle.ebpf_verify.specs.Subject.{Subject}
 use Rattle.owners_table.specs.Owning.{OwnersView}
 use Rattle.owners_table.specs.Drawing.{TicketsView, TicketView, IsOf}
+use Rattle.worker_pool.specs.EachKind.{unused_hands, all_allocs, all_nulls, all_gets, IsEven}
 use Rattle.worker_pool.specs.declared.worker.Ending.{Ending}
 use Rattle.worker_pool.specs.declared.worker.Ending.TheVariants.{Through, Unstarted, OutOfMemory}
 use Rattle.ebpf_machine.specs.Kinds.{AreKnown}
@@ -12,24 +13,10 @@ use Rattle.worker_pool.specs.declared.jobs.Bundle.{Bundle}
 use Rattle.worker_pool.specs.declared.jobs.Job.{Job}
 use Rattle.worker_pool.specs.Numbering.{IsBlank, IsWhole, Numbered, bundles_in, told_by}
 use Rattle.worker_pool.specs.declared.worker.Worker.{Worker}
-use Rattle.worker_pool.specs.declared.hands.HandPair.{HandPair}
-use Rattle.worker_pool.specs.declared.hands.Hands.{Hands}
 use Rattle.worker_pool.specs.declared.hands.Tools.{Tools}
 use Rattle.ebpf_machine.specs.Whole.{IsReportOf, granted, refused, fetched}
 use Rattle.worker_pool.specs.Claims.{lost}
-use Rattle.worker_pool.specs.Hands.{unused_hands}
 use Rattle.worker_pool.specs.Bundles.{AreAsDrawn}
-use Rattle.worker_pool.specs.Counts.{all_allocs, all_nulls, all_gets}
-
--- what the hands took from the cache and got from the shelf went back there or onto the shelf
-abbrev pub IsEvenPair : {K L : Type 0} → HandPair K L → Type 0
-IsEvenPair p = p.hand.frees + p.shelf_hand.puts ≡ p.hand.allocs + p.shelf_hand.gets
-
--- so it did of each kind
-pub record IsEven {L : Type 0} (h : Hands L) : Type 0 where
-  pub cells : IsEvenPair h.cells
-  pub records : IsEvenPair h.records
-  pub blocks : IsEvenPair h.blocks
 
 -- the job's program is there, and the context has its length
 pub record CanRun (programs : List Subject) (job : Job) : Type 0 where

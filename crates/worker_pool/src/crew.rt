@@ -7,8 +7,9 @@ ghost use Rattle.worker_pool.specs.Working.{IsFresh};
 ghost use denote.Param.Send.{IsSync};
 
 use crate::beside::{Errand, beside};
+use crate::each_kind::FreeHands;
 use crate::gate::{Gate, Point};
-use crate::hands::{FreeHands, Tools};
+use crate::hands::Tools;
 use crate::jobs::Answered;
 use crate::ledgers::Names;
 use crate::worker::{Ending, Shared, Worker, work};

@@ -1,25 +1,19 @@
-//! What a worker takes, leaves and owns with, and the hands that no worker has.
+//! What a worker takes, leaves and owns with, and the hands of one kind that no worker has.
 
 ghost use Rattle.std.specs.Prelude.{IfOk};
-ghost use Rattle.worker_pool.specs.Hands.{IsNone, HasNone, HasHand, HasPlace, IsOneMore, HaveHands, HavePlaces, AreOneMore};
+ghost use Rattle.worker_pool.specs.Hands.{IsNone, HasNone, HasHand, HasPlace, IsOneMore};
 
+use crate::each_kind::Hands;
 use crate::ledgers::{Gets, Ins, Names, Outs, Puts};
 use object_cache::{Hand, ShelfHand};
 use owners_table::owners::OwnerSeat;
-use slab_layer::{BlockKind, CellKind, Kind, RecordKind};
+use slab_layer::Kind;
 use std::alloc::{AllocError, Global};
 
 /// The two hands of one kind: at its cache and at its shelf.
 pub struct HandPair<K: Kind, L: Names> {
     pub(crate) hand: Hand<K, Outs<K, L>, Ins<K, L>>,
     pub(crate) shelf_hand: ShelfHand<Puts<K, L>, Gets<K, L>>,
-}
-
-/// A pair of hands of each kind.
-pub struct Hands<L: Names> {
-    pub(crate) cells: HandPair<CellKind, L>,
-    pub(crate) records: HandPair<RecordKind, L>,
-    pub(crate) blocks: HandPair<BlockKind, L>,
 }
 
 /// What a worker works with: its hands and its seat at the table of owners, with its counts.
@@ -36,13 +30,6 @@ pub(crate) struct Tools<L: Names> {
 pub(crate) struct FreePairs<K: Kind, L: Names> {
     pub(crate) hands: Vec<Hand<K, Outs<K, L>, Ins<K, L>>>,
     pub(crate) shelf_hands: Vec<ShelfHand<Puts<K, L>, Gets<K, L>>>,
-}
-
-/// Pairs of hands of each kind that no worker has.
-pub(crate) struct FreeHands<L: Names> {
-    pub(crate) cells: FreePairs<CellKind, L>,
-    pub(crate) records: FreePairs<RecordKind, L>,
-    pub(crate) blocks: FreePairs<BlockKind, L>,
 }
 
 impl<K: Kind, L: Names> FreePairs<K, L> {
@@ -86,34 +73,5 @@ impl<K: Kind, L: Names> FreePairs<K, L> {
         let HandPair { hand, shelf_hand } = pair;
         self.hands.push_reserved(hand);
         self.shelf_hands.push_reserved(shelf_hand);
-    }
-}
-
-impl<L: Names> FreeHands<L> {
-    /// The last pair of each kind.
-    pub(crate) fn take_last(&mut self) -> Hands<L>
-        requires { HaveHands self.old }
-        ensures { AreOneMore self.new self.old result }
-    {
-        Hands {
-            cells: self.cells.take_last(),
-            records: self.records.take_last(),
-            blocks: self.blocks.take_last(),
-        }
-    }
-
-    /// Puts a pair of each kind after the others, for which there is room.
-    pub(crate) fn push_reserved(&mut self, hands: Hands<L>)
-        requires { HavePlaces self.old }
-        ensures { AreOneMore self.old self.new hands }
-    {
-        let Hands {
-            cells,
-            records,
-            blocks,
-        } = hands;
-        self.cells.push_reserved(cells);
-        self.records.push_reserved(records);
-        self.blocks.push_reserved(blocks);
     }
 }

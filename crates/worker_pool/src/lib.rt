@@ -19,7 +19,7 @@
 //! ebpf_machine, so all that is proved of a run over any store holds over this one; each bundle is drawn once, and each
 //! job is in one bundle.
 //!
-//! To be read in this order: `ledgers`, `hands`, `supply`, `count`, `client`, `owned`, `stock`, `stocks`, `store`,
+//! To be read in this order: `ledgers`, `hands`, `supply`, `count`, `client`, `owned`, `stock`, `each_kind`, `store`,
 //! `few_answers`, `job_report`, `jobs`, `job_list`, `job_source`, `gate`, `worker`, `beside`, `crew`, `packed_reports`, `reports`,
 //! `outcome`, `admission`, `setup`, `place`, `pool`, `plain_jobs`.
 #![tactic(auto)]
@@ -29,6 +29,7 @@ mod beside;
 mod client;
 mod count;
 mod crew;
+mod each_kind;
 mod few_answers;
 mod gate;
 mod hands;
@@ -46,7 +47,6 @@ mod pool;
 mod reports;
 mod setup;
 mod stock;
-mod stocks;
 mod store;
 mod supply;
 mod worker;

@@ -10,10 +10,10 @@
 ghost use Rattle.std.specs.Prelude.{◌≡◌, ◌≤◌, ◌<◌, [], None, All, length, vec_len, vec_capacity, IfOk, IfErr, OnOk};
 ghost use Rattle.ebpf_machine.specs.Kinds.{AreKnown};
 ghost use Rattle.owners_table.specs.declared.owners.TheConstants.{ARENA_SLOTS};
+ghost use Rattle.worker_pool.specs.EachKind.{AreAllFor};
 ghost use Rattle.worker_pool.specs.Admission.{pool_fault};
 ghost use Rattle.worker_pool.specs.Bundles.{IsBundleSize};
 ghost use Rattle.worker_pool.specs.Numbering.{bundles_in};
-ghost use Rattle.worker_pool.specs.Books.{AreAllFor};
 ghost use Rattle.worker_pool.specs.Crews.{AreFresh};
 ghost use Rattle.worker_pool.specs.Settling.{Settles};
 ghost use Rattle.worker_pool.specs.Sharing.{AreLeftIn, AreServedIn};
@@ -22,6 +22,7 @@ ghost use Rattle.worker_pool.specs.Working.{AreReady};
 
 use crate::admission::{PoolFault, pool_fault};
 use crate::crew::{Done, Parts, dismiss, recruit, work_and_reap};
+use crate::each_kind::{Blanks, Supplies};
 use crate::gate::Gate;
 use crate::job_list::Jobs;
 use crate::job_report::JobReport;
@@ -30,7 +31,7 @@ use crate::outcome::{Host, Outcome};
 use crate::packed_reports::PackedReports;
 use crate::place::{count_all, gather};
 use crate::setup::{Room, Setup};
-use crate::supply::{Blanks, Closing, Supplies};
+use crate::supply::Closing;
 use crate::worker::{Ending, Shared, Worker};
 use owners_table::owners::{OwnerSeat, Owners};
 use std::alloc::{AllocError, Global};

@@ -2,16 +2,15 @@
 
 ghost use Rattle.std.specs.Prelude.{◌≡◌, ◌≤◌, ◌<◌, [], All, length, vec_len, vec_capacity, IfOk};
 ghost use Rattle.owners_table.specs.Drawing.{fresh};
+ghost use Rattle.worker_pool.specs.EachKind.{AreAllFor};
 ghost use Rattle.worker_pool.specs.Bundles.{IsBundleSize, IsShared};
-ghost use Rattle.worker_pool.specs.Books.{AreAllFor};
 ghost use Rattle.worker_pool.specs.Crews.{IsPrepared};
 ghost use Rattle.worker_pool.specs.Numbering.{IsBlank, bundles_in};
 
-use crate::hands::FreeHands;
+use crate::each_kind::{Blanks, FreeHands, Supplies};
 use crate::job_report::JobReport;
 use crate::jobs::Answered;
 use crate::ledgers::Names;
-use crate::supply::{Blanks, Supplies};
 use crate::worker::Worker;
 use object_cache::ArenaLock;
 use owners_table::tickets::{TicketSeat, Tickets};

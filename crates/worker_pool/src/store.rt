@@ -6,18 +6,17 @@ ghost use Rattle.object_cache.specs.ShelfView.{one_if};
 ghost use Rattle.owners_table.specs.Marking.{mark_word};
 ghost use Rattle.owners_table.specs.Owning.{Holds};
 ghost use Rattle.owners_table.specs.declared.mark.TheConstants.{SHELVES, WORDS_OF_A_RUN};
+ghost use Rattle.worker_pool.specs.EachKind.{unused_hands, all_allocs, all_gets, outs_of, hands_of};
 ghost use Rattle.worker_pool.specs.Claims.{HasSwapped, IsStray, IsSwappable, less};
-ghost use Rattle.worker_pool.specs.Hands.{unused_hands};
-ghost use Rattle.worker_pool.specs.Counts.{all_allocs, all_come, all_gone, all_gets, outs_of};
+ghost use Rattle.worker_pool.specs.Counts.{all_come, all_gone};
 ghost use Rattle.worker_pool.specs.Going.{HasAnswered, GoesBy, answered_on, none_answered, tools_of};
-ghost use Rattle.worker_pool.specs.Stocks.{hands_of};
 ghost use Rattle.ebpf_object.specs.Object.{kind_of, slot_of};
 
 use crate::client::Client;
+use crate::each_kind::Stocks;
 use crate::hands::Tools;
 use crate::ledgers::Names;
 use crate::owned::Owned;
-use crate::stocks::Stocks;
 use ebpf_machine::objects::Objects;
 use ebpf_object::Object;
 use std::sync::Wait;
@@ -69,14 +68,13 @@ impl<'a, L: Names, R: Wait> Objects for Store<'a, L, R> {
     ghost use Rattle.std.specs.Prelude.{◌≡◌, ◌<◌, ◌+◌, ◌⊎◌, ℕ, option_map, IfSome, IfNone};
     ghost use Rattle.owners_table.specs.Marking.{mark_word};
     ghost use Rattle.worker_pool.specs.Claims.{HasSwapped, IsStray, IsSwappable};
+    ghost use Rattle.worker_pool.specs.EachKind.{hands_of, outs_of};
     ghost use Rattle.ebpf_machine.specs.Kinds.{known_kinds};
     ghost use Rattle.ebpf_machine.specs.Store.{one_of};
     ghost use Rattle.object_cache.specs.ShelfView.{one_if};
     ghost use Rattle.owners_table.specs.Owning.{Holds};
     ghost use Rattle.owners_table.specs.declared.mark.TheConstants.{WORDS_OF_A_RUN};
-    ghost use Rattle.worker_pool.specs.Counts.{outs_of};
     ghost use Rattle.worker_pool.specs.Going.{HasAnswered, GoesBy, answered_on, none_answered, tools_of};
-    ghost use Rattle.worker_pool.specs.Stocks.{hands_of};
     ghost use Rattle.ebpf_object.specs.Object.{kind_of, bytes_of, has_size, slot_of};
 
     type Held = Owned;

@@ -1,4 +1,4 @@
-//! Where workers take objects: of each kind a cache, and a shelf on which a worker leaves one for others.
+//! Where workers take objects of one kind: a cache, and a shelf on which a worker leaves one for others.
 //!
 //! *The idea.* A supply is opened with as many hands as there are workers, and closed over them. What its shelf holds then goes back
 //! to its cache first, by one of these hands and by one of the workers' seats.
@@ -7,18 +7,18 @@ ghost use Rattle.std.specs.Prelude.{◌≡◌, ◌≤◌, ◌<◌, All, vec_len,
 ghost use Rattle.object_cache.specs.ShelfView.{new_hand, one_if};
 ghost use Rattle.owners_table.specs.declared.mark.TheConstants.{SHELVES};
 ghost use Rattle.owners_table.specs.declared.owners.TheConstants.{ARENA_SLOTS};
-ghost use Rattle.worker_pool.specs.Books.{AreWhole, AreAllWhole, AreFor, AreAllFor};
-ghost use Rattle.worker_pool.specs.Hands.{AreUnused, HasHand, HaveHands, IsNone};
+ghost use Rattle.worker_pool.specs.Books.{AreWhole, AreFor};
+ghost use Rattle.worker_pool.specs.Hands.{AreUnused, HasHand, IsNone};
 ghost use Rattle.worker_pool.specs.Outcomes.{IsIdle};
-ghost use Rattle.worker_pool.specs.Supplies.{IsOpened, AreOpened, HasMade, HaveMade, IsClosed, AreClosed, HasReturned, HasFetched};
+ghost use Rattle.worker_pool.specs.Supplies.{IsOpened, HasMade, IsClosed, HasReturned, HasFetched};
 
-use crate::hands::{FreeHands, FreePairs, HandPair};
+use crate::hands::{FreePairs, HandPair};
 use crate::ledgers::{Gets, Ins, Names, Outs, Puts};
 use crate::outcome::ShelfTotals;
 use object_cache::{ArenaLock, Cache, Hand, Left, Shelf, Totals};
 use owners_table::mark::Mark;
 use owners_table::owners::{OwnerSeat, Owners};
-use slab_layer::{BlockKind, CellKind, Held, Kind, Obj, RecordKind};
+use slab_layer::{Held, Kind, Obj};
 use std::alloc::{AllocError, Global};
 use std::sync::Wait;
 use std::sync::ledger::Blank;
@@ -33,17 +33,9 @@ pub(crate) struct KindBlanks {
     pub(crate) gets: Blank,
 }
 
-/// What becomes the books of each kind.
-#[derive(Drop)]
-pub(crate) struct Blanks {
-    pub(crate) cells: KindBlanks,
-    pub(crate) records: KindBlanks,
-    pub(crate) blocks: KindBlanks,
-}
-
 impl KindBlanks {
     /// Blanks for up to 64 hands of each.
-    fn new() -> KindBlanks
+    pub(crate) fn new() -> KindBlanks
         ensures { AreWhole result }
     {
         KindBlanks {
@@ -55,30 +47,10 @@ impl KindBlanks {
     }
 }
 
-impl Blanks {
-    /// Blanks for up to 64 hands of each kind.
-    pub(crate) fn new() -> Blanks
-        ensures { AreAllWhole result }
-    {
-        Blanks {
-            cells: KindBlanks::new(),
-            records: KindBlanks::new(),
-            blocks: KindBlanks::new(),
-        }
-    }
-}
-
 /// A cache and a shelf of one kind.
 pub(crate) struct Supply<K: Kind, L: Names> {
     pub(crate) cache: Cache<K, Outs<K, L>, Ins<K, L>>,
     pub(crate) shelf: Shelf<K, Puts<K, L>, Gets<K, L>>,
-}
-
-/// A cache and a shelf of each kind.
-pub(crate) struct Supplies<L: Names> {
-    pub(crate) cells: Supply<CellKind, L>,
-    pub(crate) records: Supply<RecordKind, L>,
-    pub(crate) blocks: Supply<BlockKind, L>,
 }
 
 /// What supplies are closed with.
@@ -172,8 +144,8 @@ impl<K: Kind, L: Names> Supply<K, L> {
         }
     }
 
-    // Closes a supply with all hands that it made.
-    fn close<R: Wait>(
+    /// Closes a supply with all hands that it made.
+    pub(crate) fn close<R: Wait>(
         self,
         closing: &Closing<'_, R>,
         free: FreePairs<K, L>,
@@ -245,87 +217,5 @@ impl<'a, R: Wait> Closing<'a, R> {
         if let Ok(()) = self.owners.fetch(seat, slot, shelf, mark) {
             self.owners.release(seat, slot);
         }
-    }
-}
-
-impl<L: Names> Supplies<L> {
-    /// The supplies, each with that many hands.
-    ///
-    /// # Errors
-    /// There was no memory. All that were made were closed.
-    pub(crate) fn open<R: Wait>(
-        rt: &R,
-        alloc: Global,
-        arena: &ArenaLock,
-        count: usize,
-        blanks: Blanks,
-    ) -> Result<(Supplies<L>, FreeHands<L>), AllocError>
-        requires blanks { AreAllFor L.outs L.ins L.puts L.gets blanks }
-        requires count { count ≤ 64 }
-        ensures { IfOk result (λ r. AreOpened count r.0 r.1) }
-    {
-        let (cells, free_cells) = Supply::open(rt, alloc, arena, count, blanks.cells)?;
-        let Ok((records, free_records)) = Supply::open(rt, alloc, arena, count, blanks.records)
-        else {
-            cells.abandon(rt, arena, free_cells);
-            return Err(AllocError);
-        };
-        let Ok((blocks, free_blocks)) = Supply::open(rt, alloc, arena, count, blanks.blocks) else {
-            cells.abandon(rt, arena, free_cells);
-            records.abandon(rt, arena, free_records);
-            return Err(AllocError);
-        };
-        let supplies = Supplies {
-            cells,
-            records,
-            blocks,
-        };
-        let free = FreeHands {
-            cells: free_cells,
-            records: free_records,
-            blocks: free_blocks,
-        };
-        Ok((supplies, free))
-    }
-
-    /// A pass of the reaper over each cache, in the order of the kinds' numbers.
-    pub(crate) fn reap<R: Wait>(&self, rt: &R, arena: &ArenaLock) {
-        self.cells.cache.reap_pass(rt, arena);
-        self.records.cache.reap_pass(rt, arena);
-        self.blocks.cache.reap_pass(rt, arena);
-    }
-
-    /// Closes the supplies with all hands that they made, and returns what each shelf and each cache did, in the order of the kinds'
-    /// numbers. What the shelves hold is freed by the first seat.
-    pub(crate) fn close<R: Wait>(
-        self,
-        closing: &Closing<'_, R>,
-        free: FreeHands<L>,
-        seats: &mut Vec<OwnerSeat>,
-    ) -> ([ShelfTotals; 3], [Totals; 3])
-        requires all { HaveMade self free }
-        requires some { HaveHands free }
-        requires seat { 0 < vec_len seats.old }
-        requires idle { All (IsIdle closing.now.owners.now) seats.old.items }
-        ensures { AreClosed closing.now.owners.now free seats.old.items seats.new.items result.0 result.1 }
-    {
-        let Supplies {
-            cells,
-            records,
-            blocks,
-        } = self;
-        let FreeHands {
-            cells: free_cells,
-            records: free_records,
-            blocks: free_blocks,
-        } = free;
-        let seat = &mut seats[0];
-        let (cell_shelf, cells) = cells.close(closing, free_cells, seat);
-        let (record_shelf, records) = records.close(closing, free_records, seat);
-        let (block_shelf, blocks) = blocks.close(closing, free_blocks, seat);
-        (
-            [cell_shelf, record_shelf, block_shelf],
-            [cells, records, blocks],
-        )
     }
 }

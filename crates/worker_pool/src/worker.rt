@@ -15,14 +15,15 @@
 ghost use Rattle.std.specs.Prelude.{◌≡◌, ◌≢◌, ◌⊎◌, ◌≤◌, ◌<◌, ◌*◌, [], All, length, true, false, is_some, vec_len, vec_capacity, IfOk, OnOk, OnErr};
 ghost use Rattle.owners_table.specs.Drawing.{IsOf};
 ghost use Rattle.owners_table.specs.declared.owners.TheConstants.{ARENA_SLOTS};
+ghost use Rattle.worker_pool.specs.EachKind.{hands_of, IsEven};
 ghost use Rattle.worker_pool.specs.declared.worker.Ending.TheVariants.{Through, OutOfMemory};
 ghost use Rattle.worker_pool.specs.Bundles.{IsBundleSize};
 ghost use Rattle.worker_pool.specs.Going.{AreAnswered, HasAnsweredAll, IsAnswered, IsUnanswered, tools_of};
 ghost use Rattle.worker_pool.specs.Numbering.{IsBlank, IsWhole, bundles_in, many_in, told_by};
-ghost use Rattle.worker_pool.specs.Stocks.{hands_of};
-ghost use Rattle.worker_pool.specs.Working.{IsFresh, IsUnused, IsEven, IsDone, IsServed, AreUsed, AreReady, Answers, HasDrawn};
+ghost use Rattle.worker_pool.specs.Working.{IsFresh, IsUnused, IsDone, IsServed, AreUsed, AreReady, Answers, HasDrawn};
 
 use crate::client::Client;
+use crate::each_kind::{Stocks, Supplies};
 use crate::gate::{Gate, Point};
 use crate::hands::Tools;
 use crate::job_list::Jobs;
@@ -30,9 +31,7 @@ use crate::job_report::{JobReport, Rest};
 use crate::jobs::{Answered, Bundle};
 use crate::ledgers::Names;
 use crate::owned::Owned;
-use crate::stocks::Stocks;
 use crate::store::Store;
-use crate::supply::Supplies;
 use ebpf_machine::whole::run_in_place;
 use ebpf_machine::workspace::Workspace;
 use ebpf_verify::verified::Verified;

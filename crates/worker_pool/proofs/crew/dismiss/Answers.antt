@@ -1,23 +1,16 @@
-use Rattle.std.proofs.Common.{rules, ◌≡◌, ◌≤◌, ◌<◌, ◌+◌, ◌*◌, ◌^◌, ℕ, List, [], ◌∷◌, ◌++◌, length, length-append, map, ap, ◌∙◌, arith}
-use Rattle.std.proofs.lemmas.List.{nil_from_length, length-map}
-use Rattle.worker_pool.proofs.Pairs.{at_most, same_rooms}
+use Rattle.std.proofs.Common.{rules, ◌≡◌, ◌≤◌, ◌*◌, ◌^◌, length, arith}
+use Rattle.std.proofs.lemmas.List.{nil_from_length}
+use Rattle.worker_pool.proofs.EachKind.{have_places, none_room, same_rooms}
+use Rattle.worker_pool.proofs.Pairs.{at_most, fits}
 use Rattle.worker_pool.proofs.Dismissing.{last_back, few_more, one_apart, none_apart, done_are, all_dismissed}
 use Rattle.worker_pool.proofs.crew.dismiss.Goals as goal
-
--- what is parted from the workers so far leaves room for one worker's more
-fits : {A W : Type 0} (items : List A) (f : W → A) (done left rest : List W) (w : W) (n all room : ℕ) → n ≡ length items
-    → items ≡ map f done → length done + length left ≡ all → left ≡ rest ++ w ∷ [] → all ≤ room → n < room
-fits items f done left rest w n all room many are sum is holds =
-    let same = ap length are ∙ length-map done f in
-    let more = ap length is ∙ length-append rest (w ∷ []) in
-    omega (arith, many, same, sum, more, holds)
 
 pub loop-worker-init : goal.loop-worker-init
 loop-worker-init g c =
     let n = c.requires.none in record {
       apart = none_apart c.args.workers.now.items c.args.parts.now c.requires.back n;
       room = record {
-        hands = record { cells = n.hands.cells.room; records = n.hands.records.room; blocks = n.hands.blocks.room };
+        hands = none_room _ _ n.hands;
         seats = n.seats.1;
         drawers = n.drawers.1;
         answered = n.answered.1;
@@ -73,23 +66,7 @@ returns-clause-dismissed g c =
 pub push_reserved-requires : goal.push_reserved-requires
 push_reserved-requires g c =
     let i = c.loop-worker.invariant in
-    let h = c.loop-worker.parts.hands in
-    let sum = done_are _ _ _ _ i.apart in
-    let is = c.take_last-tools.ensures.items in record {
-      cells = record {
-        hands = fits _ _ i.apart.done _ _ _ _ _ _ h.cells.hands.ok.0 i.apart.parts.hands.cells.hands sum is i.room.hands.cells.hands;
-        shelf_hands = fits _ _ i.apart.done _ _ _ _ _ _ h.cells.shelf_hands.ok.0 i.apart.parts.hands.cells.shelf_hands sum is i.room.hands.cells.shelf_hands;
-      };
-      records = record {
-        hands = fits _ _ i.apart.done _ _ _ _ _ _ h.records.hands.ok.0 i.apart.parts.hands.records.hands sum is i.room.hands.records.hands;
-        shelf_hands =
-            fits _ _ i.apart.done _ _ _ _ _ _ h.records.shelf_hands.ok.0 i.apart.parts.hands.records.shelf_hands sum is i.room.hands.records.shelf_hands;
-      };
-      blocks = record {
-        hands = fits _ _ i.apart.done _ _ _ _ _ _ h.blocks.hands.ok.0 i.apart.parts.hands.blocks.hands sum is i.room.hands.blocks.hands;
-        shelf_hands = fits _ _ i.apart.done _ _ _ _ _ _ h.blocks.shelf_hands.ok.0 i.apart.parts.hands.blocks.shelf_hands sum is i.room.hands.blocks.shelf_hands;
-      };
-    }
+    have_places _ i.apart.done _ _ _ _ _ i.apart.parts.hands (done_are _ _ _ _ i.apart) c.take_last-tools.ensures.items i.room.hands
 
 pub push_reserved-requires-in-loop-worker : goal.push_reserved-requires-in-loop-worker
 push_reserved-requires-in-loop-worker g c = let i = c.loop-worker.invariant in fits _ _ i.apart.done _ _ _ _ _ _ c.loop-worker.parts.seats.ok.0 i.apart.parts.seats (done_are _ _ _ _ i.apart) c.take_last-tools.ensures.items i.room.seats

@@ -6,7 +6,8 @@ use Rattle.worker_pool.specs.Numbering.{IsBlank}
 use Rattle.worker_pool.specs.Outcomes.{IsIdle}
 use Rattle.worker_pool.specs.Crews.{seat_in}
 use Rattle.worker_pool.specs.Working.{IsFresh}
-use Rattle.worker_pool.proofs.Pairs.{at_most, rest_len, rest_all, last_is, rooms_before, rest_all_unused, last_all_unused}
+use Rattle.worker_pool.proofs.EachKind.{rooms_before, rest_all_unused, last_all_unused}
+use Rattle.worker_pool.proofs.Pairs.{at_most, rest_len, rest_all, last_is}
 use Rattle.worker_pool.proofs.Recruiting.{taken_back, fresh_worker}
 use Rattle.worker_pool.proofs.crew.recruit.Goals as goal
 

@@ -1,25 +1,10 @@
-use Rattle.std.proofs.Common.{rules, ◌≡◌, ◌<◌, ℕ, length, arith}
-use Rattle.worker_pool.specs.declared.hands.FreePairs.{FreePairs}
-use Rattle.worker_pool.specs.declared.supply.Supply.{Supply}
-use Rattle.worker_pool.specs.Hands.{HasHand}
-use Rattle.worker_pool.specs.Supplies.{HasMade, IsOpened}
-use Rattle.worker_pool.specs.Serving.{AreEven}
+use Rattle.std.proofs.Common.{rules, ◌≡◌, ◌<◌, length, arith}
 use Rattle.worker_pool.specs.Settling.{AreLeft}
 use Rattle.worker_pool.proofs.Admitted.{admitted}
+use Rattle.worker_pool.proofs.EachKind.{have_hands, have_made}
 use Rattle.worker_pool.proofs.pool.run_in.Given.{Over}
 use Rattle.worker_pool.proofs.pool.run_in.Goals.{After-destroy_empty}
 use Rattle.worker_pool.proofs.pool.run_in.Goals as goal
-
--- the hands that came back are those that were made, and there are some
-module _ {K L : Type 0} (count n : ℕ) (s : Supply K L) (f f' : FreePairs K L) (opened : IsOpened count s f) (even : AreEven n f') where
-  has_made : n ≡ count → HasMade s f'
-  has_made same = record {
-    hands = omega (arith, f'.hands.ok.0, even.all, same, opened.made);
-    shelf_hands = omega (arith, f'.shelf_hands.ok.0, even.all_shelf, same, opened.shelf_made);
-  }
-
-  has_hand : 0 < n → HasHand f'
-  has_hand some = record { hands = omega (arith, f'.hands.ok.0, even.all, some); shelf_hands = omega (arith, f'.shelf_hands.ok.0, even.all_shelf, some) }
 
 -- the first part is that what is passed is not too large
 pub new-requires : goal.new-requires
@@ -56,16 +41,8 @@ left g c =
     let more : 0 < length c.args.seats.items = search rules in
     record {
       served = s;
-      made = record {
-        cells = has_made _ _ _ _ _ o.cells s.cells all;
-        records = has_made _ _ _ _ _ o.records s.records all;
-        blocks = has_made _ _ _ _ _ o.blocks s.blocks all;
-      };
-      hands = record {
-        cells = has_hand _ _ _ _ _ o.cells s.cells more;
-        records = has_hand _ _ _ _ _ o.records s.records more;
-        blocks = has_hand _ _ _ _ _ o.blocks s.blocks more;
-      };
+      made = have_made _ _ _ _ _ o s.even all;
+      hands = have_hands _ _ _ _ _ o s.even more;
       some = more;
       few = search rules;
       few_jobs = a.few_jobs;

@@ -1,6 +1,7 @@
 use Rattle.std.proofs.Common.{rules, ◌≡◌, ◌<◌, ℕ, All, List, length, map, vec_len, refl, sym, ap, subst, ◌∙◌, arith}
 use Rattle.std.specs.Int.{div_ceil}
 use Rattle.owners_table.specs.Drawing.{NeverWraps}
+use Rattle.worker_pool.specs.EachKind.{AreClosed}
 use Rattle.worker_pool.specs.declared.worker.Ending.TheVariants.{Through}
 use Rattle.ebpf_verify.specs.Subject.{Subject}
 use Rattle.object_cache.specs.declared.totals.Totals.{Totals}
@@ -15,7 +16,6 @@ use Rattle.worker_pool.specs.Outcomes.{AreIdleAgain, JobsOutcome}
 use Rattle.worker_pool.specs.Numbering.{bundles_in}
 use Rattle.worker_pool.specs.Places.{bundles_of, counted}
 use Rattle.worker_pool.specs.Serving.{AreServed}
-use Rattle.worker_pool.specs.Supplies.{AreClosed}
 use Rattle.worker_pool.proofs.Bundles.{bundles_few}
 use Rattle.worker_pool.proofs.Outcoming.{bundles_inside, outcome, placed_once, reports_len}
 use Rattle.worker_pool.proofs.pool.settle.Goals as goal

@@ -7,7 +7,7 @@ use Rattle.worker_pool.specs.Numbering.{Numbered}
 use Rattle.ebpf_machine.specs.declared.report.Report.{Report}
 use Rattle.ebpf_machine.specs.Whole.{IsReportOf}
 use Rattle.worker_pool.specs.Working.{Answers}
-use Rattle.worker_pool.proofs.Evens.{evens}
+use Rattle.worker_pool.proofs.EachKind.{evens}
 use Rattle.worker_pool.proofs.worker.answer.Goals as goal
 
 pub returns-clause-even : goal.returns-clause-even

@@ -1,9 +1,8 @@
 use Rattle.std.proofs.Common.{◌≡◌, ◌≤◌, ◌*◌, ◌-◌, length}
 use Rattle.std.specs.Prelude.{vec_capacity}
+use Rattle.worker_pool.specs.EachKind.{hands_of, IsEven}
 use Rattle.worker_pool.specs.Going.{AreAnswered, tools_of}
 use Rattle.worker_pool.specs.Numbering.{many_in}
-use Rattle.worker_pool.specs.Stocks.{hands_of}
-use Rattle.worker_pool.specs.Working.{IsEven}
 use Rattle.worker_pool.proofs.worker.answer_bundle.Given as goal
 
 abbrev pub invariant-loop-number : goal.invariant-loop-number

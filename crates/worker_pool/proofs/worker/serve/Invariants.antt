@@ -1,10 +1,10 @@
 use Rattle.std.proofs.Common.{◌≡◌, All, length, false}
 use Rattle.owners_table.specs.Drawing.{IsOf}
+use Rattle.worker_pool.specs.EachKind.{hands_of, IsEven}
 use Rattle.worker_pool.specs.Bundles.{AreAsDrawn}
 use Rattle.worker_pool.specs.Going.{HasAnsweredAll, tools_of}
 use Rattle.worker_pool.specs.Numbering.{IsWhole, bundles_in, told_by}
-use Rattle.worker_pool.specs.Stocks.{hands_of}
-use Rattle.worker_pool.specs.Working.{IsEven, Answers}
+use Rattle.worker_pool.specs.Working.{Answers}
 use Rattle.worker_pool.proofs.worker.serve.Given as goal
 
 abbrev pub invariant-loop : goal.invariant-loop

@@ -1,8 +1,9 @@
 use Rattle.std.proofs.Common.{length, ap, ◌∙◌, arith}
 use Rattle.std.proofs.lemmas.List.{nil_from_length}
 use Rattle.owners_table.specs.Owning.{SeatView}
+use Rattle.worker_pool.specs.EachKind.{all_allocs, all_nulls, all_gets}
 use Rattle.worker_pool.specs.Claims.{lost}
-use Rattle.worker_pool.specs.Counts.{all_allocs, all_nulls, all_gets}
+use Rattle.worker_pool.proofs.EachKind.{balance}
 use Rattle.worker_pool.proofs.worker.work_with.Goals as goal
 
 pub returns-clause-used : goal.returns-clause-used
@@ -23,7 +24,7 @@ returns-clause-used g c =
     rw (end.hands, end.seat, end.counts.0, end.counts.1) (record {
       even = e.even;
       table = g.table ∙ ap (λ (s : SeatView). s.table) seat;
-      held = nil_from_length _ (omega (arith, s.held, e.even.cells, e.even.records, e.even.blocks));
+      held = nil_from_length _ (omega (arith, s.held, balance _ e.even));
       notes = omega (arith, g.notes, s.noted, allocs, notes);
       fetches = omega (arith, g.fetches, s.fetched, gets, fetches);
       few = s.client.few;

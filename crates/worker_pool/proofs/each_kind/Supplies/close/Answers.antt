@@ -1,7 +1,8 @@
 use Rattle.std.proofs.Common.{rules, ◌<◌, ◌+◌, length, refl, sym, ap, ◌∙◌}
 use Rattle.worker_pool.specs.Outcomes.{IsIdle, fetches_by}
-use Rattle.worker_pool.proofs.Returning.{all_fetched, left_three, first_is, seats_all, seats_idle, seats_noted, seats_lost, seats_fetched}
-use Rattle.worker_pool.proofs.supply.Supplies.close.Goals as goal
+use Rattle.worker_pool.proofs.EachKind.{left_three}
+use Rattle.worker_pool.proofs.Returning.{all_fetched, first_is, seats_all, seats_idle, seats_noted, seats_lost, seats_fetched}
+use Rattle.worker_pool.proofs.each_kind.Supplies.close.Goals as goal
 
 pub returns : goal.returns
 returns g c =

@@ -3,7 +3,7 @@ use Rattle.std.specs.Option.{IfSome}
 use Rattle.std.proofs.lemmas.Option.{IfSome_then}
 use Rattle.ebpf_machine.specs.Kinds.{known_kinds}
 use Rattle.ebpf_machine.specs.World.{image_at}
-use Rattle.worker_pool.proofs.stocks.Stocks.take.Goals as goal
+use Rattle.worker_pool.proofs.each_kind.Stocks.take.Goals as goal
 
 pub returns-in-Block-clause-image : goal.returns-in-Block-clause-image
 returns-in-Block-clause-image g c =
