@@ -1,4 +1,4 @@
-//! Why an input or an option can't be used, in a sentence.
+//! Why an input or an option can't be used, and why bytes are no program: the sentences, and the answers with them.
 
 ghost use Rattle.std.specs.Prelude.{◌≡◌, ◌++◌, length, filter, string_bytes, IfOk, OnOk};
 ghost use Rattle.hex.specs.Hex.{is_hex_digit};
