@@ -23,9 +23,9 @@ use Rattle.ebpf_input.specs.declared.ask.Input.TheVariants.{Program, Object}
 use Rattle.ebpf_input.specs.declared.form.Form.TheVariants.{Raw}
 use Rattle.ebpf_input.specs.Formats.{refused_in}
 use Rattle.ebpf_input.specs.ObjectText.{IsTakenFault, RespondsFault, RespondsObject, object_fault_lines}
+use Rattle.ebpf_input.specs.SourceLine.{heading, held_before}
 use Rattle.ebpf_one.specs.Formats.{insn_in}
 use Rattle.ebpf_one.specs.ListText.{RespondsList}
-use Rattle.ebpf_show.specs.Sourced.{heading, held_before}
 
 abbrev pub slot_text : Format → Lines → List (Option Line) → List (Option Insn) → ℕ → List ℕ
 slot_text format l holding p slot = heading format l (held_before holding slot) (slice_index_or holding slot None) ++ insn_in format slot (insn_at p slot)
