@@ -43,11 +43,7 @@ fn write_head(text: &mut String, format: Format) -> Result<(), AllocError>
 }
 
 // Writes what the cache of each kind did.
-fn write_caches(
-    text: &mut String,
-    format: Format,
-    totals: &[Totals; 3],
-) -> Result<(), AllocError>
+fn write_caches(text: &mut String, format: Format, totals: &[Totals; 3]) -> Result<(), AllocError>
     ensures { OnOk result (string_bytes text.new ≡ string_bytes text.old ++ caches_from format 0 totals.now) }
 {
     for kind in 0..totals.len() {
@@ -166,7 +162,12 @@ fn write_times(text: &mut String, format: Format, times: Times) -> Result<(), Al
             text.push_str("\n")
         }
         Format::Json => {
-            write_time(text, "{\"microseconds\":{\"reading\":", times.reading, "null")?;
+            write_time(
+                text,
+                "{\"microseconds\":{\"reading\":",
+                times.reading,
+                "null",
+            )?;
             write_time(text, ",\"judging\":", times.judging, "null")?;
             write_time(text, ",\"running\":", times.running, "null")?;
             write_time(text, ",\"writing\":", times.writing, "null")?;

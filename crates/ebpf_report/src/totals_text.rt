@@ -34,11 +34,7 @@ pub(crate) fn write_totals(
 }
 
 // Writes what the cache of each kind did.
-fn write_caches(
-    text: &mut String,
-    format: Format,
-    totals: &[Totals; 3],
-) -> Result<(), AllocError>
+fn write_caches(text: &mut String, format: Format, totals: &[Totals; 3]) -> Result<(), AllocError>
     ensures { OnOk result (string_bytes text.new ≡ string_bytes text.old ++ caches_from format 0 totals.now) }
 {
     for kind in 0..totals.len() {

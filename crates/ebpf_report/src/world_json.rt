@@ -11,7 +11,11 @@ use ebpf_core::world::{Status, World};
 use std::alloc::AllocError;
 
 /// Writes a run after a text: how far it is, and its output. It fails only where an allocation fails.
-pub(crate) fn write_run_object(text: &mut String, world: &World<'_>, run: usize) -> Result<(), AllocError>
+pub(crate) fn write_run_object(
+    text: &mut String,
+    world: &World<'_>,
+    run: usize,
+) -> Result<(), AllocError>
     ensures { OnOk result (OfWorld world.now (λ w. string_bytes text.new ≡ string_bytes text.old ++ run_object w run)) }
 {
     write_status(text, run, world.status(run), world.executed(run))?;

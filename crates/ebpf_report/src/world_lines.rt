@@ -9,7 +9,11 @@ use ebpf_core::world::{Status, World};
 use std::alloc::AllocError;
 
 /// Writes a run after a text: what it added to its output, and how far it is. It fails only where an allocation fails.
-pub(crate) fn write_run_lines(text: &mut String, world: &World<'_>, run: usize) -> Result<(), AllocError>
+pub(crate) fn write_run_lines(
+    text: &mut String,
+    world: &World<'_>,
+    run: usize,
+) -> Result<(), AllocError>
     ensures { OnOk result (OfWorld world.now (λ w. string_bytes text.new ≡ string_bytes text.old ++ run_lines w run)) }
 {
     if let Some(output) = world.output(run) {

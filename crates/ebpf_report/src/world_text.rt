@@ -16,11 +16,7 @@ use std::alloc::AllocError;
 
 /// Writes a world after a text: each run in order, then the slots of each kind, and then what is on the shelves. It fails
 /// only where an allocation fails.
-pub fn write_world(
-    text: &mut String,
-    format: Format,
-    world: &World<'_>,
-) -> Result<(), AllocError>
+pub fn write_world(text: &mut String, format: Format, world: &World<'_>) -> Result<(), AllocError>
     ensures { OnOk result (OfWorld world.now (λ w. string_bytes text.new ≡ string_bytes text.old ++ world_in format w)) }
 {
     write_runs(text, format, world)?;
