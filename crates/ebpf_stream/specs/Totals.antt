@@ -1,24 +1,22 @@
 -- What a machine's caches and shelves did, as it is written at the end.
-use Rattle.std.specs.Prelude.{◌≡◌, ℕ, ◌++◌, List, [], ◌∷◌, codes, is_some, Option}
+use Rattle.std.specs.Prelude.{◌≡◌, ℕ, ◌++◌, List, [], ◌∷◌, is_some, Option}
 use Rattle.std.specs.Int.{from_bool}
 use Rattle.ebpf_command.specs.declared.format.Format.{Format}
-use Rattle.ebpf_command.specs.declared.format.Format.TheVariants.{Text, Json}
-use Rattle.ebpf_report.specs.OutcomeLines.{cache_words, shelf_lines}
-use Rattle.ebpf_report.specs.OutcomeObjects.{cache_members, shelf_objects}
+use Rattle.ebpf_report.specs.declared.totals_text.CacheCounts.{CacheCounts}
+use Rattle.ebpf_report.specs.TotalsLines.{cache_line, shelves_from}
 use Rattle.ebpf_stream.specs.declared.totals.KindTotals.{KindTotals}
 use Rattle.ebpf_stream.specs.declared.totals.MachineTotals.{MachineTotals}
 
 -- no object is missing from its cache
-abbrev pub cache_in : Format → List ℕ → KindTotals → List ℕ
-cache_in Text name t = cache_words name t.allocs t.frees t.nulls 0
-cache_in Json name t = cache_members name t.allocs t.frees t.nulls 0
+abbrev pub counts_in : KindTotals → CacheCounts
+counts_in t = record { allocs = t.allocs; frees = t.frees; nulls = t.nulls; missing = 0 }
 
 abbrev pub caches_in : Format → MachineTotals → List ℕ
-caches_in format t = cache_in format (codes "cell") t.cells ++ (cache_in format (codes "record") t.records ++ cache_in format (codes "block") t.blocks)
+caches_in format t =
+    cache_line format 0 (counts_in t.cells) ++ (cache_line format 1 (counts_in t.records) ++ cache_line format 2 (counts_in t.blocks))
 
 abbrev pub shelves_in : Format → MachineTotals → List ℕ
-shelves_in Text t = shelf_lines (t.cells.shelf ∷ t.records.shelf ∷ t.blocks.shelf ∷ [])
-shelves_in Json t = shelf_objects (t.cells.shelf ∷ t.records.shelf ∷ t.blocks.shelf ∷ [])
+shelves_in format t = shelves_from format 0 (t.cells.shelf ∷ t.records.shelf ∷ t.blocks.shelf ∷ [])
 
 -- as `run` writes them
 abbrev pub totals_in : Format → MachineTotals → List ℕ
