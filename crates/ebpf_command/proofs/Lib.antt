@@ -3,3 +3,4 @@ pub mod Sending
 pub mod KindLemmas
 pub mod JudgedRows
 pub mod Written
+pub mod MemberLemmas

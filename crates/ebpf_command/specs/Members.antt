@@ -31,11 +31,7 @@ in_json (Counted name number) = codes "\"" ++ (name ++ (codes "\":" ++ decimal n
 abbrev pub later_in_json : Said → List ℕ
 later_in_json m = codes "," ++ in_json m
 
--- the line of members that are said by these
-abbrev pub line_of : {X : Type 0} → (X → Said) → Format → List X → List ℕ
-line_of say format [] = []
-line_of say Text (first ∷ later) = in_text (say first) ++ (flat_map (λ m. later_in_text (say m)) later ++ codes "\n")
-line_of say Json (first ∷ later) = codes "{" ++ (in_json (say first) ++ (flat_map (λ m. later_in_json (say m)) later ++ codes "}\n"))
-
 abbrev pub line_in : Format → List Said → List ℕ
-line_in = line_of (λ m. m)
+line_in format [] = []
+line_in Text (first ∷ later) = in_text first ++ (flat_map later_in_text later ++ codes "\n")
+line_in Json (first ∷ later) = codes "{" ++ (in_json first ++ (flat_map later_in_json later ++ codes "}\n"))

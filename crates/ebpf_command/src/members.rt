@@ -1,8 +1,8 @@
 //! Lines of members, each a name and a value: in text one after another, in JSON an object.
 
-ghost use Rattle.std.specs.Prelude.{◌≡◌, ◌++◌, OnOk, string_bytes};
+ghost use Rattle.std.specs.Prelude.{◌≡◌, ◌++◌, OnOk, map, string_bytes};
 ghost use Rattle.std.specs.List.{flat_map};
-ghost use Rattle.ebpf_command.specs.Members.{in_json, in_text, later_in_json, later_in_text, line_of, said};
+ghost use Rattle.ebpf_command.specs.Members.{in_json, in_text, later_in_json, later_in_text, line_in, said};
 
 use crate::format::Format;
 use std::alloc::AllocError;
@@ -20,7 +20,7 @@ pub fn write_line(
     format: Format,
     members: &[Member<'_>],
 ) -> Result<(), AllocError>
-    ensures { OnOk result (string_bytes text.new ≡ string_bytes text.old ++ line_of said format members.now) }
+    ensures { OnOk result (string_bytes text.new ≡ string_bytes text.old ++ line_in format (map said members.now)) }
 {
     let Some((first, later)) = members.split_first() else {
         return Ok(());

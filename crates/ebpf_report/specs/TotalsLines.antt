@@ -11,14 +11,14 @@ use Rattle.ebpf_report.specs.declared.totals_text.CacheCounts.{CacheCounts}
 abbrev pub kind_name : ℕ → List ℕ
 kind_name kind = get_or kind_names kind []
 
--- what a cache of a kind was asked for, and what came back to it
-abbrev pub cache_said : (kind : ℕ) → CacheCounts → List Said
-cache_said kind c =
-    Worded (codes "cache") (kind_name kind) ∷ Counted (codes "allocs") c.allocs ∷ Counted (codes "frees") c.frees
+-- what the cache of the kind of a name was asked for, and what came back to it
+abbrev pub cache_said : (name : List ℕ) → CacheCounts → List Said
+cache_said name c =
+    Worded (codes "cache") name ∷ Counted (codes "allocs") c.allocs ∷ Counted (codes "frees") c.frees
     ∷ Counted (codes "nulls") c.nulls ∷ Counted (codes "missing") c.missing ∷ []
 
-abbrev pub cache_line : Format → (kind : ℕ) → CacheCounts → List ℕ
-cache_line format kind c = line_in format (cache_said kind c)
+abbrev pub cache_line : Format → (name : List ℕ) → CacheCounts → List ℕ
+cache_line format name c = line_in format (cache_said name c)
 
 abbrev pub counts_of : Totals → CacheCounts
 counts_of t = record { allocs = t.allocs; frees = t.frees; nulls = t.nulls; missing = t.missing }
@@ -26,7 +26,7 @@ counts_of t = record { allocs = t.allocs; frees = t.frees; nulls = t.nulls; miss
 -- the caches of the kinds from this one on
 abbrev pub caches_from : Format → (kind : ℕ) → List Totals → List ℕ
 caches_from format kind [] = []
-caches_from format kind (t ∷ totals) = cache_line format kind (counts_of t) ++ caches_from format (kind + 1) totals
+caches_from format kind (t ∷ totals) = cache_line format (kind_name kind) (counts_of t) ++ caches_from format (kind + 1) totals
 
 -- how many objects were put on a shelf and got from there, and how many it held at the end
 abbrev pub shelf_said : (shelf : ℕ) → ShelfTotals → List Said

@@ -51,23 +51,22 @@ fn write_caches(text: &mut String, format: Format, totals: &[Totals; 3]) -> Resu
             nulls,
             missing,
         };
-        write_cache(text, format, kind, counts)?;
+        write_cache(text, format, name_of(kind), counts)?;
     }
     Ok(())
 }
 
-/// Writes what the cache of a kind did after a text. It fails only where an allocation fails.
+/// Writes what the cache of the kind of a name did after a text. It fails only where an allocation fails.
 pub fn write_cache(
     text: &mut String,
     format: Format,
-    kind: usize,
+    name: &str,
     counts: CacheCounts,
 ) -> Result<(), AllocError>
-    requires { kind < length kind_names }
-    ensures { OnOk result (string_bytes text.new ≡ string_bytes text.old ++ cache_line format kind counts) }
+    ensures { OnOk result (string_bytes text.new ≡ string_bytes text.old ++ cache_line format name.now counts) }
 {
     let members = [
-        Member::Word("cache", name_of(kind)),
+        Member::Word("cache", name),
         Member::Number("allocs", u128::from(counts.allocs)),
         Member::Number("frees", u128::from(counts.frees)),
         Member::Number("nulls", u128::from(counts.nulls)),
@@ -76,8 +75,8 @@ pub fn write_cache(
     write_line(text, format, &members)
 }
 
-/// The name of a kind.
-pub(crate) fn name_of(kind: usize) -> &'static str
+/// The name of the kind of a number.
+pub fn name_of(kind: usize) -> &'static str
     requires { kind < length kind_names }
     ensures { result.now ≡ kind_name kind }
 {

@@ -3,7 +3,7 @@ use Rattle.std.specs.Prelude.{◌≡◌, ℕ, ◌++◌, List, [], ◌∷◌, is_
 use Rattle.std.specs.Int.{from_bool}
 use Rattle.ebpf_command.specs.declared.format.Format.{Format}
 use Rattle.ebpf_report.specs.declared.totals_text.CacheCounts.{CacheCounts}
-use Rattle.ebpf_report.specs.TotalsLines.{cache_line, shelves_from}
+use Rattle.ebpf_report.specs.TotalsLines.{cache_line, kind_name, shelves_from}
 use Rattle.ebpf_stream.specs.declared.totals.KindTotals.{KindTotals}
 use Rattle.ebpf_stream.specs.declared.totals.MachineTotals.{MachineTotals}
 
@@ -13,7 +13,7 @@ counts_in t = record { allocs = t.allocs; frees = t.frees; nulls = t.nulls; miss
 
 abbrev pub caches_in : Format → MachineTotals → List ℕ
 caches_in format t =
-    cache_line format 0 (counts_in t.cells) ++ (cache_line format 1 (counts_in t.records) ++ cache_line format 2 (counts_in t.blocks))
+    cache_line format (kind_name 0) (counts_in t.cells) ++ (cache_line format (kind_name 1) (counts_in t.records) ++ cache_line format (kind_name 2) (counts_in t.blocks))
 
 abbrev pub shelves_in : Format → MachineTotals → List ℕ
 shelves_in format t = shelves_from format 0 (t.cells.shelf ∷ t.records.shelf ∷ t.blocks.shelf ∷ [])

@@ -5,7 +5,7 @@ ghost use Rattle.ebpf_stream.specs.Totals.{caches_in, counts_in, totals_in};
 
 use crate::totals::{KindTotals, MachineTotals};
 use ebpf_command::format::Format;
-use ebpf_report::totals_text::{CacheCounts, write_cache, write_shelves};
+use ebpf_report::totals_text::{CacheCounts, name_of, write_cache, write_shelves};
 use std::alloc::AllocError;
 
 /// Writes totals after a text. It fails only where an allocation fails.
@@ -29,9 +29,9 @@ pub(crate) fn write_totals(
 fn write_caches(text: &mut String, format: Format, totals: &MachineTotals) -> Result<(), AllocError>
     ensures { OnOk result (string_bytes text.new ≡ string_bytes text.old ++ caches_in format totals.now) }
 {
-    write_cache(text, format, 0, counts_in(&totals.cells))?;
-    write_cache(text, format, 1, counts_in(&totals.records))?;
-    write_cache(text, format, 2, counts_in(&totals.blocks))
+    write_cache(text, format, name_of(0), counts_in(&totals.cells))?;
+    write_cache(text, format, name_of(1), counts_in(&totals.records))?;
+    write_cache(text, format, name_of(2), counts_in(&totals.blocks))
 }
 
 // What is written of a cache: no object is missing from it.
