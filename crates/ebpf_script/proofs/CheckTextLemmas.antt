@@ -8,7 +8,6 @@ use Rattle.ebpf_command.specs.Input.{read_of}
 use Rattle.ebpf_command.proofs.Written.{CutsLong}
 use Rattle.ebpf_reader.specs.declared.script.Dialect.TheVariants.{Jobs}
 use Rattle.ebpf_reader.specs.ParsedScript.{ParsedScript}
-use Rattle.ebpf_reader.specs.Scripts.{parsed_text}
 use Rattle.ebpf_reader.proofs.LinesLemmas.{parsed_text_long}
 use Rattle.ebpf_script.specs.CheckText.{RespondsCheck, ChecksParsed}
 
