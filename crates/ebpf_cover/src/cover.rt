@@ -102,7 +102,9 @@ fn count_run(
     requires known { kinds_of verified.now.rows ≡ known_kinds }
     requires tally { IsTally verified.now.program tally.old }
     ensures tally { IsTally verified.now.program tally.new }
-    ensures counted { IfOk result (λ _. IsRunCounted verified.now context.now report.now (executed_so_far verified.now.program tally.old) (taken_so_far tally.old) (executed_so_far verified.now.program tally.new) (taken_so_far tally.new)) }
+    ensures counted { IfOk result (λ _. IsRunCounted verified.now context.now report.now
+        (executed_so_far verified.now.program tally.old) (taken_so_far tally.old)
+        (executed_so_far verified.now.program tally.new) (taken_so_far tally.new)) }
 {
     let mut room = [Reply::Null; FEW_ANSWERS];
     let answers = report.answers(&mut room);

@@ -128,7 +128,8 @@ impl<K: Kind> Stock<K> {
     /// Exchanges what is given, if anything, for what is on the shelf.
     pub(crate) fn swap(&mut self, given: Option<Obj<K, Held>>) -> Option<Obj<K, Held>>
         requires { IfSome given (λ o. IsHeld self.old o.slot) }
-        ensures { Exchanges self.old self.new (option_map (λ o. shelved_at o.slot o.bytes.value.items) given) (option_map (λ o. shelved_at o.slot o.bytes.value.items) result) }
+        ensures { Exchanges self.old self.new (option_map (λ o. shelved_at o.slot o.bytes.value.items) given)
+            (option_map (λ o. shelved_at o.slot o.bytes.value.items) result) }
     {
         self.counts.puts = self.counts.puts.wrapping_add(u64::from(given.is_some()));
         self.counts.gets = self

@@ -122,7 +122,8 @@ fn run_shown(
     ensures unmade { result ≢ 0 → (output.new ≡ output.old) × (report.new ≡ report.old) }
     ensures context { result ≡ 4 → MatchOption program.now.value ⊥ (λ p. length context.now ≢ (arc_value p).verified.decl.context) }
     ensures memory { result ≡ 6 → MatchOption program.now.value ⊥ (λ p. length context.now ≡ (arc_value p).verified.decl.context) }
-    ensures empty { MatchOption machine.old.value (result ≡ 5) (λ _. MatchOption program.now.value (result ≡ 5) (λ _. (result ≡ 0) ⊎ (result ≡ 4) ⊎ (result ≡ 6))) }
+    ensures empty { MatchOption machine.old.value (result ≡ 5) (λ _.
+        MatchOption program.now.value (result ≡ 5) (λ _. (result ≡ 0) ⊎ (result ≡ 4) ⊎ (result ≡ 6))) }
 {
     let Some(held) = machine.get_mut() else {
         return EMPTY;

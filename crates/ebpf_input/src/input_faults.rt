@@ -6,7 +6,8 @@ ghost use Rattle.ebpf_command.specs.declared.codes.RefusalCode.TheVariants.{Deco
 ghost use Rattle.ebpf_command.specs.Codes.{refusal_name};
 ghost use Rattle.ebpf_command.specs.Response.{refused_response};
 ghost use Rattle.ebpf_input.specs.Formats.{fault_why_in, refused_why_in};
-ghost use Rattle.ebpf_input.specs.InputFaults.{part_name, may_stand, place_of_other, shown_byte, mending_of, other_byte, unread, is_object, unread_of, undecoded_sentence, slot_size, too_much, fault_words, fault_sentence};
+ghost use Rattle.ebpf_input.specs.InputFaults.{part_name, may_stand, place_of_other, shown_byte, mending_of, other_byte};
+ghost use Rattle.ebpf_input.specs.InputFaults.{unread, is_object, unread_of, undecoded_sentence, slot_size, too_much, fault_words, fault_sentence};
 
 use crate::form::Form;
 use crate::in_format::{answer_fault_why, answer_refused_why};
@@ -58,7 +59,8 @@ pub fn answer_undecoded(
     slot: u16,
     code: DecodeCode,
 ) -> Result<Answer, AllocError>
-    ensures { IfOk result (λ answer. answer ≡ refused_response (refused_why_in format (refusal_name (Decode code)) slot (undecoded_sentence bytes.now slot code))) }
+    ensures { IfOk result (λ answer. answer ≡
+        refused_response (refused_why_in format (refusal_name (Decode code)) slot (undecoded_sentence bytes.now slot code))) }
 {
     let mut why = String::new(alloc);
     write_undecoded(&mut why, bytes, slot as usize, code)?;

@@ -5,7 +5,8 @@ ghost use Rattle.ebpf_machine.specs.Kinds.{AreKnown};
 ghost use Rattle.ebpf_cover.specs.Covered.{AreLong, executed_at, taken_at};
 ghost use Rattle.std.specs.Option.{option_copied};
 ghost use Rattle.ebpf_reader.specs.ReadScripts.{named};
-ghost use Rattle.ebpf_report.specs.CoveredLines.{counts_members, counts_words, covered_in, covered_line, covered_object, instruction_member, is_branch, programs_from, slots_from, taken_member};
+ghost use Rattle.ebpf_report.specs.CoveredLines.{counts_members, counts_words, covered_in, covered_line, covered_object};
+ghost use Rattle.ebpf_report.specs.CoveredLines.{instruction_member, is_branch, programs_from, slots_from, taken_member};
 
 use ebpf_command::format::Format;
 use ebpf_cover::counts::Counts;
@@ -30,7 +31,8 @@ pub fn write_covered(
 ) -> Result<(), AllocError>
     requires known { AreKnown accepted.now }
     requires all { length reports.now ≡ length jobs.now }
-    ensures { OnOk result (string_bytes text.new ≡ string_bytes text.old ++ programs_from format jobs.now reports.now 0 (map named programs.now.entries) accepted.now) }
+    ensures { OnOk result (string_bytes text.new ≡ string_bytes text.old
+        ++ programs_from format jobs.now reports.now 0 (map named programs.now.entries) accepted.now) }
 {
     let all = cover(alloc, accepted, jobs, reports)?;
     let mut program = 0;
@@ -54,7 +56,8 @@ fn write_slots(
     counts: &Counts,
 ) -> Result<(), AllocError>
     requires { AreLong program.now counts.now }
-    ensures { OnOk result (string_bytes text.new ≡ string_bytes text.old ++ slots_from format name.now (executed_at counts.now) (taken_at counts.now) 0 program.now) }
+    ensures { OnOk result (string_bytes text.new ≡ string_bytes text.old
+        ++ slots_from format name.now (executed_at counts.now) (taken_at counts.now) 0 program.now) }
 {
     for slot in 0..program.slots() {
         let executed = counts.executed[slot];

@@ -3,7 +3,8 @@
 ghost use Rattle.std.specs.Prelude.{◌≡◌, ◌<◌, ◌++◌, length, string_bytes, OnOk};
 ghost use Rattle.ebpf_command.specs.declared.format.Format.TheVariants.{Json};
 ghost use Rattle.ebpf_command.specs.Members.{line_in};
-ghost use Rattle.ebpf_report.specs.StatsLines.{cache_in, cache_row, cache_said, caches_from, head_in, jobs_said, table_in, time_or, times_in, worker_said, workers_from};
+ghost use Rattle.ebpf_report.specs.StatsLines.{cache_in, cache_row, cache_said, caches_from};
+ghost use Rattle.ebpf_report.specs.StatsLines.{head_in, jobs_said, table_in, time_or, times_in, worker_said, workers_from};
 ghost use Rattle.ebpf_state.specs.Kinds.{kind_names};
 
 use crate::stats::Stats;

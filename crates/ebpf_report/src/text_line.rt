@@ -76,7 +76,8 @@ impl TextLine {
     #[inline]
     pub(crate) fn count_on(&mut self, after: usize) -> bool
         requires { after < length self.old }
-        ensures counted { result ≡ true → (slice_index self.old (length self.old - after - 1) < 57) × (self.new ≡ slice_set self.old (length self.old - after - 1) (slice_index self.old (length self.old - after - 1) + 1)) }
+        ensures counted { result ≡ true → (slice_index self.old (length self.old - after - 1) < 57) ×
+            (self.new ≡ slice_set self.old (length self.old - after - 1) (slice_index self.old (length self.old - after - 1) + 1)) }
         ensures same { result ≡ false → self.new ≡ self.old }
     {
         let before = self.len() - after - 1;

@@ -4,9 +4,10 @@
 //! what it reads and of its options, errors included, and it writes nothing else. That is the contract of [`one`] and [`list`], which
 //! read hex and write plain text; of [`ebpf_one::one::one`], [`ebpf_one::list::list`], [`ebpf_show::explain::explain`],
 //! [`ebpf_show::graph::graph`] and [`ebpf_one::lay_out::lay_out`]; of [`ebpf_assemble::assemble::assemble`],
-//! [`ebpf_script::check_script::check_script`] and [`ebpf_script::replay_script::replay_script`]. What `run` writes is such a text for some outcome of the jobs, since threads decide which
-//! requests for objects are granted and what is found on a shelf: that is the contract of [`ebpf_script::run_script::run_script`]. `stream`
-//! answers each line of its input, and has its own contract: [`ebpf_stream::stream::stream`]. These are all that it calls.
+//! [`ebpf_script::check_script::check_script`] and [`ebpf_script::replay_script::replay_script`]. What `run` writes is such a text for
+//! some outcome of the jobs, since threads decide which requests for objects are granted and what is found on a shelf: that is the
+//! contract of [`ebpf_script::run_script::run_script`]. `stream` answers each line of its input, and has its own contract:
+//! [`ebpf_stream::stream::stream`]. These are all that it calls.
 #![tactic(auto)]
 
 mod command;

@@ -32,8 +32,8 @@ pub fn one<R: Read, W: Write>(
     held: u8,
     nulls: bool,
 ) -> Result<Done, EngineFault>
-    ensures { Performs (Responds Text Hex context.now held nulls) (R.remaining reader.old) (R.remaining reader.new) (W.contents writer.old) (W.contents writer.new)
-        writer.old writer.new result }
+    ensures { Performs (Responds Text Hex context.now held nulls) (R.remaining reader.old) (R.remaining reader.new)
+        (W.contents writer.old) (W.contents writer.new) writer.old writer.new result }
 {
     let ask = Ask {
         input: Input::Program(Form::Hex),

@@ -153,7 +153,8 @@ fn write_covered_in(
 ) -> Result<(), AllocError>
     requires known { AreKnown accepted.now }
     requires all { length reports.now ≡ length jobs.now }
-    ensures { OnOk result (string_bytes text.new ≡ string_bytes text.old ++ covered_lines ask.covered ask.format (map named programs.now.entries) accepted.now jobs.now reports.now) }
+    ensures { OnOk result (string_bytes text.new ≡ string_bytes text.old
+        ++ covered_lines ask.covered ask.format (map named programs.now.entries) accepted.now jobs.now reports.now) }
 {
     if !ask.covered {
         return Ok(());

@@ -39,8 +39,8 @@ pub fn explain<R: Read, W: Write>(
     ask: &Ask<'_>,
     lines: bool,
 ) -> Result<Done, EngineFault>
-    ensures done { Performs (ExplainsInput ask.now.format ask.now.input ask.now.context.now ask.now.held lines) (R.remaining reader.old) (R.remaining reader.new)
-        (W.contents writer.old) (W.contents writer.new) writer.old writer.new result }
+    ensures done { Performs (ExplainsInput ask.now.format ask.now.input ask.now.context.now ask.now.held lines)
+        (R.remaining reader.old) (R.remaining reader.new) (W.contents writer.old) (W.contents writer.new) writer.old writer.new result }
     // Of a file without lines, it is what is written of the function's slots.
     ensures plain { WritesInputPlain ask.now.format (ExplainsTo ask.now.format Raw ask.now.context.now ask.now.held) ask.now.input
         (R.remaining reader.old) (W.contents writer.old) (W.contents writer.new) result }

@@ -42,7 +42,8 @@ pub(crate) fn write_slot_objects(
     slot: usize,
 ) -> Result<(), AllocError>
     requires inside { slot < length trace.now.entries.items }
-    ensures { OnOk result (string_bytes text.new ≡ string_bytes text.old ++ slot_objects trace.now.flowed.now trace.now.entries.items trace.now.kinds.now slot) }
+    ensures { OnOk result (string_bytes text.new ≡ string_bytes text.old
+        ++ slot_objects trace.now.flowed.now trace.now.entries.items trace.now.kinds.now slot) }
 {
     let Some(insn) = trace.flowed.program().at(slot) else {
         return Ok(());

@@ -1,6 +1,7 @@
 //! The answers to the lines of a stream.
 
-ghost use Rattle.std.specs.Prelude.{◌≡◌, ◌≢◌, ◌⊎◌, ◌≤◌, ◌^◌, ◌+◌, ◌++◌, ℕ, List, None, Some, length, map, slice_get, string_bytes, IfOk, OnOk, OnErr, IfErr, true};
+ghost use Rattle.std.specs.Prelude.{◌≡◌, ◌≢◌, ◌⊎◌, ◌≤◌, ◌^◌, ◌+◌, ◌++◌, ℕ, List, None, Some, true};
+ghost use Rattle.std.specs.Prelude.{length, map, slice_get, string_bytes, IfOk, OnOk, OnErr, IfErr};
 ghost use Rattle.ebpf_host.specs.Stocks.{stock_of};
 ghost use Rattle.ebpf_command.specs.Json.{fault_in};
 ghost use Rattle.ebpf_command.specs.declared.done.EngineFault.TheVariants.{Input, Output};
@@ -73,7 +74,9 @@ impl Answers {
         setup: &Setup,
         line: &[u8],
     ) -> Result<(), EngineFault>
-        ensures answered { OnOk result ((here : List ℕ) × IsAnswered (set_up setup.now) line.now (position_of self.old) (position_of self.new) here × (string_bytes self.new.text ≡ string_bytes self.old.text ++ here)) }
+        ensures answered { OnOk result ((here : List ℕ) ×
+            IsAnswered (set_up setup.now) line.now (position_of self.old) (position_of self.new) here ×
+            (string_bytes self.new.text ≡ string_bytes self.old.text ++ here)) }
         ensures text { OnErr result (string_bytes self.new.text ≡ string_bytes self.old.text) }
         ensures fault { IfErr result (λ fault. fault ≢ Output) }
         // Only a number that can't be counted ends a stream so.
@@ -120,7 +123,9 @@ impl Answers {
     fn run(&mut self, setup: &Setup, job: &Job, lines: usize) -> Result<(), EngineFault>
         requires declared { slice_get (map (λ p. p.context) (parsed_script setup.now.script).programs) job.now.program ≡ Some (length job.now.context) }
         requires next { lines ≡ self.old.place.lines + 1 }
-        ensures done { OnOk result ((here : List ℕ) × IsDone (set_up setup.now) (Some job.now) (position_of self.old) (position_of self.new) here × (string_bytes self.new.text ≡ string_bytes self.old.text ++ here)) }
+        ensures done { OnOk result ((here : List ℕ) ×
+            IsDone (set_up setup.now) (Some job.now) (position_of self.old) (position_of self.new) here ×
+            (string_bytes self.new.text ≡ string_bytes self.old.text ++ here)) }
         ensures text { OnErr result (string_bytes self.new.text ≡ string_bytes self.old.text) }
         ensures fault { IfErr result (λ fault. fault ≢ Output) }
         ensures due { IfErr result (λ fault. fault ≡ Input → 2 ^ 64 ≤ self.old.place.jobs + 1) }
@@ -164,7 +169,8 @@ impl Answers {
 
     /// Answers the end of the input, with what the caches and the shelves did. It fails only where an allocation fails.
     pub(crate) fn end(&mut self, format: Format) -> Result<(), AllocError>
-        ensures told { OnOk result ((totals : MachineTotals) × TellAllLeft (position_of self.old).shelves totals × (string_bytes self.new.text ≡ string_bytes self.old.text ++ totals_in format totals)) }
+        ensures told { OnOk result ((totals : MachineTotals) × TellAllLeft (position_of self.old).shelves totals ×
+            (string_bytes self.new.text ≡ string_bytes self.old.text ++ totals_in format totals)) }
         ensures text { OnErr result (string_bytes self.new.text ≡ string_bytes self.old.text) }
         ensures position { position_of self.new ≡ position_of self.old }
     {

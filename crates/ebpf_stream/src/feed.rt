@@ -68,7 +68,9 @@ impl Feed {
     // Answers the line that ends after this piece.
     fn end_line(&mut self, alloc: Global, setup: &Setup, piece: &[u8]) -> Result<(), EngineFault>
         requires { All (λ c. (c == 10) ≡ false) piece.now }
-        ensures ended { OnOk result ((seen text : List ℕ) → IsFed (set_up setup.now) seen self.old text → (here : List ℕ) × IsFed (set_up setup.now) (seen ++ (piece.now ++ 10 ∷ [])) self.new (text ++ here) × (string_bytes self.new.answers.text ≡ string_bytes self.old.answers.text ++ here)) }
+        ensures ended { OnOk result ((seen text : List ℕ) → IsFed (set_up setup.now) seen self.old text →
+            (here : List ℕ) × IsFed (set_up setup.now) (seen ++ (piece.now ++ 10 ∷ [])) self.new (text ++ here) ×
+            (string_bytes self.new.answers.text ≡ string_bytes self.old.answers.text ++ here)) }
         ensures text { OnErr result (string_bytes self.new.answers.text ≡ string_bytes self.old.answers.text) }
         ensures fault { IfErr result (λ fault. fault ≢ Output) }
     {
@@ -84,7 +86,9 @@ impl Feed {
     /// # Errors
     /// `NoMemory` and `Input` where it could not be answered.
     pub(crate) fn end(&mut self, alloc: Global, setup: &Setup) -> Result<(), EngineFault>
-        ensures answered { OnOk result ((here : List ℕ) × IsAnswered (set_up setup.now) self.old.kept.items (position_of self.old.answers) (position_of self.new.answers) here × (string_bytes self.new.answers.text ≡ string_bytes self.old.answers.text ++ here)) }
+        ensures answered { OnOk result ((here : List ℕ) ×
+            IsAnswered (set_up setup.now) self.old.kept.items (position_of self.old.answers) (position_of self.new.answers) here ×
+            (string_bytes self.new.answers.text ≡ string_bytes self.old.answers.text ++ here)) }
         ensures kept { OnOk result (self.new.kept.items ≡ []) }
         ensures text { OnErr result (string_bytes self.new.answers.text ≡ string_bytes self.old.answers.text) }
         ensures fault { IfErr result (λ fault. fault ≢ Output) }
@@ -105,7 +109,8 @@ impl Feed {
 
     // Writes what is answered, where it is long.
     fn relieve<W: Write>(&mut self, writer: &mut W) -> Result<(), EngineFault>
-        ensures sent { OnOk result (Sends (W.contents writer.old) (W.contents writer.new) (string_bytes self.old.answers.text) (string_bytes self.new.answers.text) []) }
+        ensures sent { OnOk result (Sends (W.contents writer.old) (W.contents writer.new)
+            (string_bytes self.old.answers.text) (string_bytes self.new.answers.text) []) }
         ensures beginning { OnErr result (AppendsBeginning (W.contents writer.old) (W.contents writer.new) (string_bytes self.old.answers.text)) }
         ensures position { position_of self.new.answers ≡ position_of self.old.answers }
         ensures kept { self.new.kept ≡ self.old.kept }

@@ -30,7 +30,8 @@ pub(crate) fn read_line(
 ) -> Result<Option<Job>, Stop>
     ensures fine { IfOk result (λ job. stream_fault (parsed_script script.now) line.now ≡ None) }
     ensures job { IfOk result (λ job. job ≡ job_of (parsed_script script.now) (stream_shape (words line.now))) }
-    ensures declared { IfOk result (λ job. IfSome job (λ j. slice_get (map (λ p. p.context) (parsed_script script.now).programs) j.program ≡ Some (length j.context))) }
+    ensures declared { IfOk result (λ job. IfSome job (λ j.
+        slice_get (map (λ p. p.context) (parsed_script script.now).programs) j.program ≡ Some (length j.context))) }
     ensures refused { IfErr result (IsStop (stream_fault (parsed_script script.now) line.now)) }
 {
     if line.len() > MAX_LINE {

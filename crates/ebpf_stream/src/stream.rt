@@ -51,7 +51,8 @@ pub fn stream<S: Read, I: Read, W: Write>(
     ensures response { WritesStream format (S.remaining script.old) (I.remaining reader.old) (W.contents writer.old) (W.contents writer.new) result }
     ensures consumed { Reads (S.remaining script.old) (S.remaining script.new) result }
     ensures end { IfOk result (λ done. IsAtEnd (I.remaining reader.new) ⊎ ((reader.new ≡ reader.old) × (done ≡ Refused))) }
-    ensures stopped { IfErr result (λ fault. fault ≢ Output → (writer.new ≡ writer.old) ⊎ WritesFirst format (S.remaining script.old) (I.remaining reader.old) (W.contents writer.old) (W.contents writer.new)) }
+    ensures stopped { IfErr result (λ fault. fault ≢ Output → (writer.new ≡ writer.old) ⊎
+        WritesFirst format (S.remaining script.old) (I.remaining reader.old) (W.contents writer.old) (W.contents writer.new)) }
     ensures beginning { WritesPart format (S.remaining script.old) (I.remaining reader.old) (W.contents writer.old) (W.contents writer.new) result }
 {
     let text = read_input(alloc, script)?;
@@ -88,8 +89,10 @@ fn serve_script<I: Read, W: Write>(
     requires { IsRunnable (parsed_script script) }
     ensures response { Writes (RespondsTo format (parsed_script script)) (I.remaining reader.old) (W.contents writer.old) (W.contents writer.new) result }
     ensures end { IfOk result (λ done. IsAtEnd (I.remaining reader.new) ⊎ ((reader.new ≡ reader.old) × (done ≡ Refused))) }
-    ensures stopped { IfErr result (λ fault. fault ≢ Output → (writer.new ≡ writer.old) ⊎ WritesFirstTo format (parsed_script script) (I.remaining reader.old) (W.contents writer.old) (W.contents writer.new)) }
-    ensures beginning { WritesBeginning (RespondsPartTo format (parsed_script script)) (I.remaining reader.old) (W.contents writer.old) (W.contents writer.new) result }
+    ensures stopped { IfErr result (λ fault. fault ≢ Output → (writer.new ≡ writer.old) ⊎
+        WritesFirstTo format (parsed_script script) (I.remaining reader.old) (W.contents writer.old) (W.contents writer.new)) }
+    ensures beginning { WritesBeginning (RespondsPartTo format (parsed_script script)) (I.remaining reader.old)
+        (W.contents writer.old) (W.contents writer.new) result }
 {
     let verdicts = verdicts_on(alloc, format, &script.programs)?;
     if verdicts.refused {
@@ -146,7 +149,8 @@ fn serve<I: Read, W: Write>(
 ) -> Result<(), EngineFault>
     requires kept { feed.old.kept.items ≡ [] }
     requires position { position_of feed.old.answers ≡ start }
-    ensures served { Serves (set_up setup.now) (I.remaining reader.old) (W.contents writer.old) (W.contents writer.new) (position_of feed.new.answers) (string_bytes feed.old.answers.text) result }
+    ensures served { Serves (set_up setup.now) (I.remaining reader.old) (W.contents writer.old) (W.contents writer.new)
+        (position_of feed.new.answers) (string_bytes feed.old.answers.text) result }
     ensures end { OnOk result (IsAtEnd (I.remaining reader.new)) }
 {
     let mut chunk = [0; CHUNK];

@@ -11,7 +11,8 @@
 //! exchange needs: no round is here, or both magazines are full. Where no round is here the two magazines are
 //! alike, so the loaded one goes to the depot, and nothing else has to move.
 
-ghost use Rattle.std.specs.Prelude.{◌≡◌, ℕ, ◌+◌, ◌<◌, ◌↔◌, ◌⊎◌, [], ◌∷◌, ◌++◌, length, false, IsTrue, IsSome, IsOk, IfSome, IfNone, OnOk, IfOk, IfErr, OnErr, IsPermutation};
+ghost use Rattle.std.specs.Prelude.{◌≡◌, ℕ, ◌+◌, ◌<◌, ◌↔◌, ◌⊎◌, [], ◌∷◌, ◌++◌, length, false};
+ghost use Rattle.std.specs.Prelude.{IsTrue, IsSome, IsOk, IfSome, IfNone, OnOk, IfOk, IfErr, OnErr, IsPermutation};
 ghost use Rattle.magazine.specs.LayerView.{rounds_of, IsEmpty, IsFull, exchanged, with_round};
 
 use crate::depot::Depot;

@@ -213,7 +213,13 @@ fetches slots seats homes id me p from word t one inside some_shelf low run st r
       after_fetch (slot_at p) from word n t ∷ [],
       keeps,
       tt,
-      takes slots seats st r id t (after_fetch (slot_at p) from word n t) p from word me.1 (at ∙ ap some one) inside (omega arith) run refl refl (λ won h. let a = ap (weigh h) (held-won (slot_at p) from from n t.got won) in let b = sum_by-cons (λ e. h e.0 e.1) (slot_at p, from) t.got in let c = shelf-some h (slot_at p) from some_shelf (omega arith) in omega arith) (λ lost. held-lost (slot_at p) from from n t.got lost),
+      takes slots seats st r id t (after_fetch (slot_at p) from word n t) p from word me.1 (at ∙ ap some one) inside (omega arith) run refl refl
+          (λ won h.
+          let a = ap (weigh h) (held-won (slot_at p) from from n t.got won) in
+          let b = sum_by-cons (λ e. h e.0 e.1) (slot_at p, from) t.got in
+          let c = shelf-some h (slot_at p) from some_shelf (omega arith) in
+          omega arith)
+          (λ lost. held-lost (slot_at p) from from n t.got lost),
       (
         refl,
         r.words p,
@@ -238,7 +244,12 @@ shelves slots seats homes id me p word t one inside some_shelf low has st r _ at
   after_shelve (slot_at p) word t ∷ [],
   keeps,
   tt,
-  leaves slots seats st r id t (after_shelve (slot_at p) word t) p word me.1 (at ∙ ap some one) inside low has refl refl (λ h. let a = sum_by-append (λ (e : ℕ × ℕ). h e.0 e.1) t.shelved ((slot_at p, word) ∷ []) in let b = sum_by-cons (λ (e : ℕ × ℕ). h e.0 e.1) (slot_at p, word) [] in let c = shelf-some h (slot_at p) word some_shelf (omega arith) in omega arith),
+  leaves slots seats st r id t (after_shelve (slot_at p) word t) p word me.1 (at ∙ ap some one) inside low has refl refl
+      (λ h.
+      let a = sum_by-append (λ (e : ℕ × ℕ). h e.0 e.1) t.shelved ((slot_at p, word) ∷ []) in
+      let b = sum_by-cons (λ (e : ℕ × ℕ). h e.0 e.1) (slot_at p, word) [] in
+      let c = shelf-some h (slot_at p) word some_shelf (omega arith) in
+      omega arith),
   (refl, λ u e. let same : t ≡ u = ap (first_or blank) (sym one ∙ e) in ap (λ (x : OwnerSheet). after_shelve (slot_at p) word x ∷ []) same),
 )
 

@@ -1,10 +1,13 @@
 //! The table of owners.
 
-ghost use Rattle.std.specs.Prelude.{◌≡◌, ◌+◌, ◌<◌, ◌≤◌, [], ◌∷◌, ◌++◌, ℕ, map, replicate, reverse, slice_index, vec_len, All, IfSome, IfNone, IfOk, OnOk, IfErr, IsErrAnd};
+ghost use Rattle.std.specs.Prelude.{◌≡◌, ◌+◌, ◌<◌, ◌≤◌, [], ◌∷◌, ◌++◌, ℕ};
+ghost use Rattle.std.specs.Prelude.{map, replicate, reverse, slice_index, vec_len, All, IfSome, IfNone, IfOk, OnOk, IfErr, IsErrAnd};
 ghost use Rattle.std.specs.Slots.{slots_items, slots_len, IsFull};
 ghost use Rattle.owners_table.specs.Marking.{mark_word};
 ghost use Rattle.owners_table.specs.Place.{words_in};
-ghost use Rattle.owners_table.specs.Owning.{Holds, Apart, HasOneOwner, EachHasOneOwner, IsLeft, IsOwner, IsSlotWord, IsClaimed, IsTaken, IsFetched, IsElsewhere, fresh, sheet, held_by, blank, owner_word, found_word, run_word, without, word_at};
+ghost use Rattle.owners_table.specs.Owning.{Holds, Apart, HasOneOwner, EachHasOneOwner, IsLeft, IsOwner};
+ghost use Rattle.owners_table.specs.Owning.{IsSlotWord, IsClaimed, IsTaken, IsFetched, IsElsewhere};
+ghost use Rattle.owners_table.specs.Owning.{fresh, sheet, held_by, blank, owner_word, found_word, run_word, without, word_at};
 ghost use Rattle.owners_table.specs.declared.mark.TheConstants.{SHELVES};
 ghost use Rattle.owners_table.specs.declared.owners.TheConstants.{ARENA_SLOTS};
 

@@ -15,7 +15,8 @@
 //!
 //! A slab with no span is vacant: it keeps the place of a page that isn't had.
 
-ghost use Rattle.std.specs.Prelude.{◌≡◌, ◌≤◌, ◌<◌, ◌+◌, ◌*◌, ◌/◌, ◌%◌, ◌↔◌, [], map, replicate, length, vec_len, vec_capacity, slice_get, slice_set, is_some, true, IsTrue, IsSome, IfSome, Some, if◌then◌else◌};
+ghost use Rattle.std.specs.Prelude.{◌≡◌, ◌≤◌, ◌<◌, ◌+◌, ◌*◌, ◌/◌, ◌%◌, ◌↔◌, [], Some, true, if◌then◌else◌};
+ghost use Rattle.std.specs.Prelude.{map, replicate, length, vec_len, vec_capacity, slice_get, slice_set, is_some, IsTrue, IsSome, IfSome};
 ghost use Rattle.std.specs.Option.{ForSome};
 ghost use Rattle.slab_layer.specs.Stacks.{HasSame, selected};
 ghost use Rattle.slab_layer.specs.Slots.{is_home, has_home, outs_in};

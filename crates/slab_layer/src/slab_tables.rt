@@ -9,7 +9,8 @@
 //! *The reason.* A table of all places is filled once, with the first page, and never moves a slab: so a page
 //! comes and goes by a write in its place, and only the stack has to be searched, when a page is given up.
 
-ghost use Rattle.std.specs.Prelude.{◌≡◌, ◌⊎◌, List, ℕ, ◌≤◌, ◌<◌, ◌+◌, ◌==◌, if◌then◌else◌, [], map, length, vec_len, vec_capacity, slice_index, slice_index_or, All, IfSome, IfNone, OnOk};
+ghost use Rattle.std.specs.Prelude.{◌≡◌, ◌⊎◌, List, ℕ, ◌≤◌, ◌<◌, ◌+◌, ◌==◌, if◌then◌else◌, []};
+ghost use Rattle.std.specs.Prelude.{map, length, vec_len, vec_capacity, slice_index, slice_index_or, All, IfSome, IfNone, OnOk};
 ghost use Rattle.std.specs.List.{AllWithin};
 ghost use Rattle.slab_layer.specs.Slots.{outs_in};
 ghost use Rattle.slab_layer.specs.Stacks.{times};

@@ -96,7 +96,8 @@ impl<'a, L: Names, R: Wait> Objects for Store<'a, L, R> {
       outs = λ s kind. outs_of (hands_of s.stocks) kind;
       goes = λ s told t. GoesBy (tools_of s.stocks s.client) told (tools_of t.stocks t.client);
       stays = λ s. none_answered (tools_of s.stocks s.client);
-      goes_on = λ s t u told more first then. answered_on (tools_of s.stocks s.client) (tools_of t.stocks t.client) (tools_of u.stocks u.client) told more first then;
+      goes_on = λ s t u told more first then.
+          answered_on (tools_of s.stocks s.client) (tools_of t.stocks t.client) (tools_of u.stocks u.client) told more first then;
     } };
 
     // The object goes back where its slot has an owner.
@@ -130,7 +131,8 @@ impl<'a, L: Names, R: Wait> Objects for Store<'a, L, R> {
         ensures seat { HasSwapped given result (mark_word self.old.client.job at) self.old.client.seat.held self.new.client.seat.held }
         ensures kind { IfSome result (λ h. kind_of h ≡ shelf) }
         // Where nothing is got, a stray is counted only with its cause.
-        ensures due { IfNone result ((self.new.client.strays ≡ self.old.client.strays) ⊎ ((slot : ℕ) × IsStray shelf (option_map slot_of given) slot self.old.client.seat.fetches self.new.client.seat.fetches)) }
+        ensures due { IfNone result ((self.new.client.strays ≡ self.old.client.strays) ⊎ ((slot : ℕ) ×
+            IsStray shelf (option_map slot_of given) slot self.old.client.seat.fetches self.new.client.seat.fetches)) }
         ensures goes { HasAnswered (tools_of self.old.stocks self.old.client) (tools_of self.new.stocks self.new.client) 0 0 (one_if result) }
         ensures outs { (k : ℕ) → outs_of (hands_of self.new.stocks) k + one_of given shelf k ≡
             outs_of (hands_of self.old.stocks) k + one_of result shelf k }

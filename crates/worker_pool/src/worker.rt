@@ -162,7 +162,8 @@ fn serve<'a, L: Names, G: Gate + 'a, R: Wait + 'a>(
     ensures good { All (Answers shared.now.programs.now shared.now.jobs.now) (told_by shared.now.size answered.new) }
     ensures drawn { HasDrawn (bundles_in shared.now.size (length shared.now.jobs.now)) ticket.new answered.new.bundles.items result }
     ensures whole { result ≢ OutOfMemory → All (IsWhole shared.now.size (length shared.now.jobs.now)) answered.new.bundles.items }
-    ensures goes { HasAnsweredAll (tools_of store.old.stocks store.old.client) (told_by shared.now.size answered.new) (tools_of store.new.stocks store.new.client) }
+    ensures goes { HasAnsweredAll (tools_of store.old.stocks store.old.client) (told_by shared.now.size answered.new)
+        (tools_of store.new.stocks store.new.client) }
 {
     let Ok(mut workspace) = Workspace::new(shared.alloc) else {
         return Ending::Unstarted;

@@ -14,6 +14,7 @@ returns-in_err-answer g c = performs_nothing (RespondsInput c.args.ask.now.forma
 
 pub returns : goal.returns
 returns g c =
-    performs_answer (RespondsInput c.args.ask.now.format c.args.ask.now.input (OneTo c.args.ask.now c.args.nulls)) (input_cuts c.args.ask.now.format (OneTo c.args.ask.now c.args.nulls) (λ form. one_cuts c.args.ask.now.format form c.args.ask.now.context.now c.args.ask.now.held c.args.nulls) c.args.ask.now.input)
+    performs_answer (RespondsInput c.args.ask.now.format c.args.ask.now.input (OneTo c.args.ask.now c.args.nulls))
+    (input_cuts c.args.ask.now.format (OneTo c.args.ask.now c.args.nulls) (λ form. one_cuts c.args.ask.now.format form c.args.ask.now.context.now c.args.ask.now.held c.args.nulls) c.args.ask.now.input)
     _ _ _ _ c.args.writer.now _ _ _ c.in_ok-answer.answer _
     c.in_ok-input.ensures.read c.in_ok-input.ensures.consumed c.deref.ensures.value c.in_ok-answer.ensures c.write_answer.ensures

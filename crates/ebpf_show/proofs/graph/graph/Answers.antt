@@ -16,6 +16,7 @@ returns-in_err-answer g c = performs_nothing (RespondsInput Text c.args.ask.now.
 
 pub returns : goal.returns
 returns g c =
-    performs_answer (RespondsInput Text c.args.ask.now.input (GraphsAs c.args.states c.args.ask.now.context.now c.args.ask.now.held)) (input_cuts Text (GraphsAs c.args.states c.args.ask.now.context.now c.args.ask.now.held) (λ form. shown_cuts (Graph c.args.states) form c.args.ask.now.context.now c.args.ask.now.held) c.args.ask.now.input)
+    performs_answer (RespondsInput Text c.args.ask.now.input (GraphsAs c.args.states c.args.ask.now.context.now c.args.ask.now.held))
+    (input_cuts Text (GraphsAs c.args.states c.args.ask.now.context.now c.args.ask.now.held) (λ form. shown_cuts (Graph c.args.states) form c.args.ask.now.context.now c.args.ask.now.held) c.args.ask.now.input)
     _ _ _ _ c.args.writer.now _ _ _ c.in_ok-answer.answer _
     c.in_ok-input.ensures.read c.in_ok-input.ensures.consumed c.deref.ensures.value c.in_ok-answer.ensures c.write_answer.ensures

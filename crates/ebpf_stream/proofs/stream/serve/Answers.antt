@@ -21,7 +21,8 @@ reading-init g c = (
 
 pub returns-in_default-read-clause-served : goal.returns-in_default-read-clause-served
 returns-in_default-read-clause-served g c =
-    serves_stopped (set_up c.args.setup.now) Input (g.I.Read.remaining c.args.reader.now) (g.I.Read.remaining c.reading.reader) (g.W.Write.contents c.args.writer.now) (g.W.Write.contents c.reading.writer) (string_bytes c.args.feed.now.answers.text) c.reading.feed (position_of c.args.feed.now.answers) c.reading.invariant.0
+    serves_stopped (set_up c.args.setup.now) Input (g.I.Read.remaining c.args.reader.now) (g.I.Read.remaining c.reading.reader) (g.W.Write.contents c.args.writer.now) (g.W.Write.contents c.reading.writer)
+    (string_bytes c.args.feed.now.answers.text) c.reading.feed (position_of c.args.feed.now.answers) c.reading.invariant.0
 
 pub returns-then-n-eq0-clause-served : goal.returns-then-n-eq0-clause-served
 returns-then-n-eq0-clause-served g c =
@@ -43,4 +44,5 @@ reading-preserved g c =
 
 pub returns-clause-served : goal.returns-clause-served
 returns-clause-served g c =
-    serves_stopped (set_up c.args.setup.now) Input (g.I.Read.remaining c.args.reader.now) (g.I.Read.remaining c.reading.reader) (g.W.Write.contents c.args.writer.now) (g.W.Write.contents c.reading.writer) (string_bytes c.args.feed.now.answers.text) c.reading.feed (position_of c.args.feed.now.answers) c.reading.invariant.0
+    serves_stopped (set_up c.args.setup.now) Input (g.I.Read.remaining c.args.reader.now) (g.I.Read.remaining c.reading.reader) (g.W.Write.contents c.args.writer.now) (g.W.Write.contents c.reading.writer)
+    (string_bytes c.args.feed.now.answers.text) c.reading.feed (position_of c.args.feed.now.answers) c.reading.invariant.0

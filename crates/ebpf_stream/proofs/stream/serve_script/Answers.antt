@@ -37,16 +37,25 @@ invariant_of-setup g c = record {
 
 pub returns-in-Err-clause-stopped : goal.returns-in-Err-clause-stopped
 returns-in-Err-clause-stopped g c = λ other.
-    let waits = subst (λ (xs : List ℕ). Serves (record { format = c.args.format; parsed = parsed_script c.args.script; subjects = map (λ p. p.verified) c.in_ok-load_all.field-0.items }) (g.I.Read.remaining c.args.reader.now) (g.W.Write.contents c.args.writer.now) (g.W.Write.contents c.serve.new.writer) (position_of c.serve.new.feed.answers) xs (Err c.in-Err.fault)) c.new.ensures.text c.in-Err.ensures.served in
+    let waits = subst (λ (xs : List ℕ).
+    Serves (record { format = c.args.format; parsed = parsed_script c.args.script; subjects = map (λ p. p.verified) c.in_ok-load_all.field-0.items })
+    (g.I.Read.remaining c.args.reader.now) (g.W.Write.contents c.args.writer.now) (g.W.Write.contents c.serve.new.writer) (position_of c.serve.new.feed.answers) xs (Err c.in-Err.fault))
+    c.new.ensures.text c.in-Err.ensures.served in
     inr (writes_first c.args.format (parsed_script c.args.script) c.in_ok-verdicts.verdicts c.in_ok-verdicts.ensures _ c.in_ok-load_all.ensures c.if-verdicts.false c.in-Err.fault Refused _ _ _ (position_of c.serve.new.feed.answers) waits other)
 
 pub returns-in-Err-clause-beginning : goal.returns-in-Err-clause-beginning
 returns-in-Err-clause-beginning g c =
-    let waits = subst (λ (xs : List ℕ). Serves (record { format = c.args.format; parsed = parsed_script c.args.script; subjects = map (λ p. p.verified) c.in_ok-load_all.field-0.items }) (g.I.Read.remaining c.args.reader.now) (g.W.Write.contents c.args.writer.now) (g.W.Write.contents c.serve.new.writer) (position_of c.serve.new.feed.answers) xs (Err c.in-Err.fault)) c.new.ensures.text c.in-Err.ensures.served in
+    let waits = subst (λ (xs : List ℕ).
+    Serves (record { format = c.args.format; parsed = parsed_script c.args.script; subjects = map (λ p. p.verified) c.in_ok-load_all.field-0.items })
+    (g.I.Read.remaining c.args.reader.now) (g.W.Write.contents c.args.writer.now) (g.W.Write.contents c.serve.new.writer) (position_of c.serve.new.feed.answers) xs (Err c.in-Err.fault))
+    c.new.ensures.text c.in-Err.ensures.served in
     begins_part c.args.format (parsed_script c.args.script) c.in_ok-verdicts.verdicts c.in_ok-verdicts.ensures _ c.in_ok-load_all.ensures c.if-verdicts.false c.in-Err.fault Refused _ _ _ (position_of c.serve.new.feed.answers) waits
 
 pub returns-clause-response : goal.returns-clause-response
 returns-clause-response g c =
-    let waits = subst (λ (xs : List ℕ). Serves (record { format = c.args.format; parsed = parsed_script c.args.script; subjects = map (λ p. p.verified) c.in_ok-load_all.field-0.items }) (g.I.Read.remaining c.args.reader.now) (g.W.Write.contents c.args.writer.now) (g.W.Write.contents c.serve.new.writer) (position_of c.serve.new.feed.answers) xs (Ok tt)) c.new.ensures.text c.in_default.ensures.served in
+    let waits = subst (λ (xs : List ℕ).
+    Serves (record { format = c.args.format; parsed = parsed_script c.args.script; subjects = map (λ p. p.verified) c.in_ok-load_all.field-0.items })
+    (g.I.Read.remaining c.args.reader.now) (g.W.Write.contents c.args.writer.now) (g.W.Write.contents c.serve.new.writer) (position_of c.serve.new.feed.answers) xs (Ok tt))
+    c.new.ensures.text c.in_default.ensures.served in
     subst (λ (d : Done). Writes (RespondsTo c.args.format (parsed_script c.args.script)) (g.I.Read.remaining c.args.reader.now) (g.W.Write.contents c.args.writer.now) (g.W.Write.contents c.serve.new.writer) (Ok d)) (sym c.done_by.ensures)
     (writes_all c.args.format (parsed_script c.args.script) c.in_ok-verdicts.verdicts c.in_ok-verdicts.ensures _ c.in_ok-load_all.ensures c.if-verdicts.false _ _ _ (position_of c.serve.new.feed.answers) waits)

@@ -18,7 +18,8 @@ returns-in-Ok-clause-response g c =
 
 pub returns-in-Ok-clause-stopped : goal.returns-in-Ok-clause-stopped
 returns-in-Ok-clause-stopped g c =
-    if_stopped c.serve_script.result _ _ _ (stream_stopped c.args.format (g.S.Read.remaining c.args.script.now) (g.I.Read.remaining c.args.reader.now) (g.W.Write.contents c.args.writer.now) (g.W.Write.contents c.serve_script.new.writer) c.in_ok-text.text.items c.serve_script.result (parsed_script c.in-Ok.script)
+    if_stopped c.serve_script.result _ _ _
+    (stream_stopped c.args.format (g.S.Read.remaining c.args.script.now) (g.I.Read.remaining c.args.reader.now) (g.W.Write.contents c.args.writer.now) (g.W.Write.contents c.serve_script.new.writer) c.in_ok-text.text.items c.serve_script.result (parsed_script c.in-Ok.script)
     c.in_ok-text.ensures.read (ap (parsed_text Setup) (sym c.deref.ensures.value) ∙ c.in-Ok.ensures.parsed)) c.serve_script.ensures.stopped
 
 pub returns-in-Ok-clause-beginning : goal.returns-in-Ok-clause-beginning

@@ -21,7 +21,9 @@ slots-preserved c =
       | then-index-gt0+in_ok-add w ↦
           let on = on_by p t before c.index.result.now c.requires number w.if-index-gt0.true in
           let more = get_or_read c.slots.executed.items before w.index-before.result.now (omega (arith, c.slots-test.true, c.len-slot-end.ensures, c.slots.invariant.long)) w.index-before.ensures 0 in
-          subst (λ (e : Vec ℕ Global). AreSummed p t (slot + 1) e.items) (sym w.executed-is) (next_summed p t before slot w.index-before.result.now c.slots.executed.items w.add.new.counts.items follows (more ∙ sym (ap (λ (b : Bool). cond {A = ℕ} b (get_or c.slots.executed.items before 0) 0) on)) w.in_ok-add.ensures.long w.in_ok-add.ensures.added c.slots.invariant)
+          subst (λ (e : Vec ℕ Global). AreSummed p t (slot + 1) e.items) (sym w.executed-is)
+          (next_summed p t before slot w.index-before.result.now c.slots.executed.items w.add.new.counts.items follows
+          (more ∙ sym (ap (λ (b : Bool). cond {A = ℕ} b (get_or c.slots.executed.items before 0) 0) on)) w.in_ok-add.ensures.long w.in_ok-add.ensures.added c.slots.invariant)
       | else-index-gt0 w ↦
           let off = off_by p t before c.index.result.now c.requires number w.if-index-gt0.false in
           subst (λ (e : Vec ℕ Global). AreSummed p t (slot + 1) e.items) (sym w.executed-is) (none_next_summed p t before slot c.slots.executed.items follows (sym (ap (λ (b : Bool). cond {A = ℕ} b (get_or c.slots.executed.items before 0) 0) off)) c.slots.invariant)

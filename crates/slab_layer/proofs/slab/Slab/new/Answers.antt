@@ -28,7 +28,8 @@ loop-index-preserved g c =
       places = c.push_reserved-in-loop-index.ensures.items ∙ (ap (λ r. r ++ Home ∷ []) l.invariant.places ∙ replicate_more l.index Home);
       few_places = omega (arith, c.push_reserved-in-loop-index.ensures.capacity, l.invariant.few_places);
       few_home = omega (arith, c.push_reserved.ensures.capacity, l.invariant.few_home);
-      stacked = rw (c.push_reserved.ensures.items, c.push_reserved-in-loop-index.ensures.items, map_push (λ o. o.slot) l.home.items c.new.result, c.new.ensures) (pushed (map (λ o. o.slot) l.home.items) (c.first-page.result * 256) (c.first-page.result * 256 + l.index) l.places.items l.invariant.stacked place);
+      stacked = rw (c.push_reserved.ensures.items, c.push_reserved-in-loop-index.ensures.items, map_push (λ o. o.slot) l.home.items c.new.result, c.new.ensures)
+          (pushed (map (λ o. o.slot) l.home.items) (c.first-page.result * 256) (c.first-page.result * 256 + l.index) l.places.items l.invariant.stacked place);
     }
 
 pub new-requires-clause-sized : goal.new-requires-clause-sized

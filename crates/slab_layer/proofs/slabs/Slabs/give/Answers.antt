@@ -23,7 +23,8 @@ pub push_reserved-requires : goal.push_reserved-requires
 push_reserved-requires g c =
     let h = (goal.at.push_reserved-requires g c).After-index-2 in
     let old = c.index_mut.result.now in
-    let short = room_given c.self.inside.slabs.items (c.slot-slot.result / 256) (c.slot-slot.result % 256) c.index-2.result.now c.self.inside.partial.items c.self.inside.out c.self.invariant.0 (inside g h) c.index-2.ensures (out g h c.index-2.result.now c.index-2.ensures) (sym c.has_home-is_first.ensures ∙ c.if-is_first.true) in
+    let short = room_given c.self.inside.slabs.items (c.slot-slot.result / 256) (c.slot-slot.result % 256) c.index-2.result.now c.self.inside.partial.items c.self.inside.out c.self.invariant.0
+    (inside g h) c.index-2.ensures (out g h c.index-2.result.now c.index-2.ensures) (sym c.has_home-is_first.ensures ∙ c.if-is_first.true) in
     omega (arith, short, c.self.invariant.1, c.self.inside.slabs.ok.0, c.self.inside.partial.ok.0)
 
 pub give-requires-clause-slot : goal.give-requires-clause-slot

@@ -45,7 +45,9 @@ after g c f =
 
 -- the stack has room for all pages
 room : (g : Over) (c : After-first-page g) → 256 ≤ vec_capacity c.reserve_tables.new.partial
-room g c = room_for_all (length (pages_in c.self.inside.slabs.items)) (vec_len c.self.inside.slabs) (vec_capacity c.reserve_tables.new.partial) (vec_capacity c.self.inside.partial) c.self.invariant.0.sized (length-map c.self.inside.slabs.items places_of ∙ sym c.self.inside.slabs.ok.0) c.in-Ok.ensures.room_open c.self.invariant.1 c.reserve_tables.ensures.capacity
+room g c =
+    room_for_all (length (pages_in c.self.inside.slabs.items)) (vec_len c.self.inside.slabs) (vec_capacity c.reserve_tables.new.partial) (vec_capacity c.self.inside.partial)
+    c.self.invariant.0.sized (length-map c.self.inside.slabs.items places_of ∙ sym c.self.inside.slabs.ok.0) c.in-Ok.ensures.room_open c.self.invariant.1 c.reserve_tables.ensures.capacity
 
 pub push_reserved-requires : goal.push_reserved-requires
 push_reserved-requires g c =

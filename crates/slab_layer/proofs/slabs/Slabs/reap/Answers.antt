@@ -29,7 +29,9 @@ noted g c i = ap page_of c.replace-slab.ensures.value ∙ number_is c.self.insid
 -- and gives its place to a vacant one
 after : (g : Over) (c : After-take_number g) → IsIdleAt c.self.inside.slabs.items c.in-Some.at
     → IsSlabTable (set c.self.inside.slabs.items c.in-Some.at c.replace-slab.new.dest) c.take_number.new.numbers.items c.self.inside.out
-after g c i = partial_reaped c.self.inside.slabs.items c.in-Some.at c.self.inside.out c.index_mut.result.now c.replace-slab.new.dest c.self.inside.partial.items c.take_number.new.numbers.items c.self.invariant.0 i c.index_mut.ensures.value (ap page_of c.replace-slab.ensures.after ∙ c.vacant.ensures.page) (ap places_of c.replace-slab.ensures.after ∙ c.vacant.ensures.places) c.take_number.ensures.count c.take_number.ensures.each
+after g c i =
+    partial_reaped c.self.inside.slabs.items c.in-Some.at c.self.inside.out c.index_mut.result.now c.replace-slab.new.dest c.self.inside.partial.items c.take_number.new.numbers.items
+    c.self.invariant.0 i c.index_mut.ensures.value (ap page_of c.replace-slab.ensures.after ∙ c.vacant.ensures.page) (ap places_of c.replace-slab.ensures.after ∙ c.vacant.ensures.places) c.take_number.ensures.count c.take_number.ensures.each
 
 -- a page's number is a small one
 small : (n : ℕ) → n < 256 → Fits w32 n
@@ -71,7 +73,9 @@ returns-clause-lowest g c =
     let xs = c.self.inside.slabs.items in
     let busy : AllWithin IsBusy xs 0 c.in-Some.at = subst (λ ys. AllWithin IsBusy ys 0 c.in-Some.at) c.deref.ensures.value c.in-Some.ensures.lowest in
     IfSome_then c.end.result c.end.ensures.page (λ s p. λ lower before has.
-    subst (λ v. (slot : ℕ) × (slot / 256 ≡ lower) × IsOut v slot) c.self.view_is (busy_below xs (map page_of xs) c.self.inside.partial.items c.self.inside.out c.in-Some.at lower c.self.invariant.0 busy (subst (λ n. lower < n) (p.0 ∙ noted g h.After-replace-slab (idle g h.In-Some)) before) (subst (λ v. Has v lower) (sym c.self.view_is) has)))
+    subst (λ v. (slot : ℕ) × (slot / 256 ≡ lower) × IsOut v slot) c.self.view_is
+    (busy_below xs (map page_of xs) c.self.inside.partial.items c.self.inside.out c.in-Some.at lower c.self.invariant.0 busy
+    (subst (λ n. lower < n) (p.0 ∙ noted g h.After-replace-slab (idle g h.In-Some)) before) (subst (λ v. Has v lower) (sym c.self.view_is) has)))
 
 pub returns-clause-removed : goal.returns-clause-removed
 returns-clause-removed g c =
