@@ -8,7 +8,8 @@ ghost use Rattle.ebpf_machine.specs.Kinds.{known_kinds};
 ghost use Rattle.ebpf_machine.specs.World.{image_at};
 ghost use Rattle.ebpf_object.specs.Object.{bytes_of, kind_of};
 ghost use Rattle.object_cache.specs.ShelfView.{one_if};
-ghost use Rattle.worker_pool.specs.EachKind.{AreAllFor, AreAllWhole, AreClosed, AreOneMore, AreOpened, HasMoved, HaveHands, HaveMade, HavePlaces, hands_of, unused_hands};
+ghost use Rattle.worker_pool.specs.EachKind.{AreAllFor, AreAllWhole, AreClosed, AreOneMore, AreOpened};
+ghost use Rattle.worker_pool.specs.EachKind.{HasMoved, HaveHands, HaveMade, HavePlaces, hands_of, unused_hands};
 ghost use Rattle.worker_pool.specs.Outcomes.{IsIdle};
 
 use crate::hands::{FreePairs, HandPair};
