@@ -7,7 +7,7 @@ use Rattle.std.proofs.lemmas.List.{length_push}
 use Rattle.std.proofs.lemmas.Option.{get_or_from_slice_get, slice_get_cases, slice_get_within}
 use Rattle.ebpf_machine.proofs.Lists.ListLemmas.{get_set_cases}
 use Rattle.ebpf_machine.specs.declared.report.Report.{Report}
-use Rattle.worker_pool.specs.declared.jobs.Job.{Job}
+use Rattle.job_list.specs.declared.jobs.Job.{Job}
 use Rattle.ebpf_verify.specs.Subject.{Subject}
 use Rattle.ebpf_cover.specs.declared.counts.Counts.{Counts}
 use Rattle.ebpf_cover.specs.declared.tally.Tally.{Tally}

@@ -6,7 +6,7 @@ use Rattle.ebpf_machine.specs.declared.report.Report.{Report}
 use Rattle.ebpf_machine.specs.Alone.{Replies, alone_after}
 use Rattle.ebpf_machine.specs.Replies.{replies_in}
 use Rattle.ebpf_machine.specs.View.{view_in}
-use Rattle.worker_pool.specs.declared.jobs.Job.{Job}
+use Rattle.job_list.specs.declared.jobs.Job.{Job}
 use Rattle.ebpf_cover.specs.declared.counts.Counts.{Counts}
 
 -- how many of the numbers below n are such

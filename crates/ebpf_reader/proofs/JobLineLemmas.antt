@@ -8,7 +8,7 @@ use Rattle.std.proofs.lemmas.List.Folds.{list_all_at}
 use Rattle.ebpf_command.specs.declared.done.FaultCode.TheVariants.{BadHex, BadName, UndefinedName, WrongContextLength, UnprintableByte}
 use Rattle.ebpf_command.specs.declared.done.Stop.{Stop}
 use Rattle.ebpf_command.specs.HexText.{hex_or_dash}
-use Rattle.worker_pool.specs.declared.jobs.Job.{Job}
+use Rattle.job_list.specs.declared.jobs.Job.{Job}
 use Rattle.ebpf_reader.specs.JobLines.{IsReadAs, job_line_fault, job_of, run_shape, stream_shape}
 use Rattle.ebpf_reader.specs.LineFaults.{shape_fault, is_as_declared}
 use Rattle.ebpf_reader.specs.Names.{is_name}

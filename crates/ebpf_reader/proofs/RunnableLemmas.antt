@@ -11,7 +11,7 @@ use Rattle.std.proofs.lemmas.Option.{slice_get-map, slice_get_within}
 use Rattle.ebpf_command.specs.declared.done.FaultCode.{FaultCode}
 use Rattle.ebpf_command.specs.declared.done.FaultCode.TheVariants.{InputTooLong, UnprintableByte, BadHex, BadName, UndefinedName, WrongContextLength}
 use Rattle.ebpf_command.specs.HexText.{hex_or_dash}
-use Rattle.worker_pool.specs.declared.jobs.Job.{Job}
+use Rattle.job_list.specs.declared.jobs.Job.{Job}
 use Rattle.ebpf_reader.specs.declared.script.Dialect.{Dialect}
 use Rattle.ebpf_reader.specs.LineFaults.{shape_fault, line_fault, is_as_declared}
 use Rattle.ebpf_reader.specs.Names.{is_name}

@@ -4,7 +4,7 @@ use Rattle.std.specs.Str.{bytes_eq}
 use Rattle.ebpf_command.specs.declared.done.FaultCode.{FaultCode}
 use Rattle.ebpf_command.specs.declared.done.FaultCode.TheVariants.{UnprintableByte}
 use Rattle.ebpf_command.specs.HexText.{hex_or_dash}
-use Rattle.worker_pool.specs.declared.jobs.Job.{Job}
+use Rattle.job_list.specs.declared.jobs.Job.{Job}
 use Rattle.ebpf_reader.specs.LineFaults.{shape_fault}
 use Rattle.ebpf_reader.specs.ParsedScript.{ParsedScript, number_of}
 use Rattle.ebpf_reader.specs.ScriptLines.{is_text}

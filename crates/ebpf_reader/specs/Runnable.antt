@@ -1,7 +1,7 @@
 -- What the jobs of a script need in order to be run: every script without a fault has it.
 use Rattle.std.specs.Prelude.{◌≡◌, ◌≤◌, List, map, length, slice_get, All, Some, IfSome}
 use Rattle.vmem_arena.specs.declared.arena.TheConstants.{MAX_PAGES}
-use Rattle.worker_pool.specs.declared.jobs.Job.{Job}
+use Rattle.job_list.specs.declared.jobs.Job.{Job}
 use Rattle.ebpf_reader.specs.ParsedScript.{Named, ParsedScript}
 
 -- each job's program is there, and its context is as long as the program declares

@@ -5,7 +5,7 @@ use Rattle.ebpf_insn.specs.declared.insn.Insn.{Insn}
 use Rattle.ebpf_insn.specs.Program.{insn_at}
 use Rattle.ebpf_verify.specs.Subject.{Subject}
 use Rattle.ebpf_machine.specs.declared.report.Report.{Report}
-use Rattle.worker_pool.specs.declared.jobs.Job.{Job}
+use Rattle.job_list.specs.declared.jobs.Job.{Job}
 use Rattle.ebpf_cover.specs.declared.counts.Counts.{Counts}
 use Rattle.ebpf_cover.specs.Covered.{AreCounts, executed_at, taken_at, executed_in, taken_in}
 use Rattle.ebpf_command.specs.declared.format.Format.{Format}

@@ -6,7 +6,7 @@ use Rattle.ebpf_insn.specs.declared.insn.Insn.TheVariants as insn
 use Rattle.ebpf_text.specs.Listing.{insn_text}
 use Rattle.ebpf_verify.specs.Subject.{Subject}
 use Rattle.ebpf_machine.specs.declared.report.Report.{Report}
-use Rattle.worker_pool.specs.declared.jobs.Job.{Job}
+use Rattle.job_list.specs.declared.jobs.Job.{Job}
 use Rattle.ebpf_cover.specs.Covered.{executed_in, taken_in}
 use Rattle.ebpf_command.specs.declared.format.Format.{Format}
 use Rattle.ebpf_command.specs.declared.format.Format.TheVariants.{Text, Json}

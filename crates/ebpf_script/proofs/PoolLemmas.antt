@@ -5,7 +5,7 @@ use Rattle.std.proofs.lemmas.List.Elements.{All-head, All-tail}
 use Rattle.std.proofs.lemmas.Option.{slice_get-map, slice_get_within}
 use Rattle.std.specs.List.{prefix_len}
 use Rattle.ebpf_verify.specs.Subject.{Subject}
-use Rattle.worker_pool.specs.declared.jobs.Job.{Job}
+use Rattle.job_list.specs.declared.jobs.Job.{Job}
 use Rattle.worker_pool.specs.declared.outcome.Host.{Host}
 use Rattle.worker_pool.specs.Admission.{pool_fault, has_program, has_context}
 

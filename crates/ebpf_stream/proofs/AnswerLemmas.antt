@@ -6,7 +6,7 @@ use Rattle.ebpf_verify.specs.Subject.{Subject}
 use Rattle.ebpf_machine.specs.declared.report.Report.{Report}
 use Rattle.ebpf_machine.specs.Whole.{IsReportOf}
 use Rattle.ebpf_host.specs.Reports.{IsCutOff, IsReportWithin}
-use Rattle.worker_pool.specs.declared.jobs.Job.{Job}
+use Rattle.job_list.specs.declared.jobs.Job.{Job}
 use Rattle.ebpf_command.specs.declared.done.FaultCode.{FaultCode}
 use Rattle.ebpf_command.specs.Json.{fault_in}
 use Rattle.ebpf_reader.specs.JobLines.{job_of, stream_shape}

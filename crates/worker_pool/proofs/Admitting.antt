@@ -4,7 +4,7 @@ use Rattle.std.proofs.Math.ListN.{get_or}
 use Rattle.std.proofs.lemmas.Bool.{lt-ltb}
 use Rattle.std.proofs.lemmas.List.Sums.{fails_before_first}
 use Rattle.ebpf_verify.specs.Subject.{Subject}
-use Rattle.worker_pool.specs.declared.jobs.Job.{Job}
+use Rattle.job_list.specs.declared.jobs.Job.{Job}
 use Rattle.worker_pool.specs.Admission.{has_context, has_program, is_declared, without_context, without_program}
 use Rattle.worker_pool.proofs.Searching.{none_passes, to_the_end}
 

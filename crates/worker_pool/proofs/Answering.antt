@@ -7,7 +7,7 @@ use Rattle.ebpf_verify.specs.Subject.{Subject}
 use Rattle.ebpf_machine.specs.declared.report.Report.{Report}
 use Rattle.ebpf_machine.specs.Whole.{granted, refused, fetched}
 use Rattle.worker_pool.specs.declared.hands.Tools.{Tools}
-use Rattle.worker_pool.specs.declared.jobs.Job.{Job}
+use Rattle.job_list.specs.declared.jobs.Job.{Job}
 use Rattle.worker_pool.specs.Numbering.{Numbered, numbered}
 use Rattle.worker_pool.specs.Going.{AreAnswered, HasAnsweredAll, IsAnswered, IsUnanswered, none_answered}
 use Rattle.worker_pool.specs.Working.{Answers}

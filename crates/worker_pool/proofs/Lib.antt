@@ -16,10 +16,8 @@ pub mod Turned
 pub mod Dismissing
 pub mod Shares
 pub mod Serving
-pub mod JobLists
 pub mod Searching
 pub mod Admitting
-pub mod Packing
 pub mod Admitted
 pub mod EachKind
 pub mod Outcoming

@@ -15,16 +15,17 @@ use Rattle.owners_table.specs.Owning.{OwnersView, SeatView}
 use Rattle.owners_table.specs.Drawing.{TicketsView, times_drawn}
 use Rattle.worker_pool.specs.EachKind.{AreClosed}
 use Rattle.worker_pool.specs.declared.worker.Ending.TheVariants.{Through}
-use Rattle.worker_pool.specs.declared.jobs.Answered.{Answered}
-use Rattle.worker_pool.specs.declared.jobs.Bundle.{Bundle}
-use Rattle.worker_pool.specs.declared.jobs.Job.{Job}
+use Rattle.worker_pool.specs.declared.bundles.Answered.{Answered}
+use Rattle.worker_pool.specs.declared.bundles.Bundle.{Bundle}
+use Rattle.job_list.specs.declared.jobs.Job.{Job}
 use Rattle.worker_pool.specs.declared.outcome.TheConstants.{MAX_JOBS}
 use Rattle.worker_pool.specs.Numbering.{bundles_in, numbered, times_of, told_by, told_of}
 use Rattle.worker_pool.specs.declared.crew.Parts.{Parts}
 use Rattle.worker_pool.specs.declared.crew.Done.{Done}
 use Rattle.worker_pool.specs.declared.outcome.ShelfTotals.{ShelfTotals}
 use Rattle.worker_pool.specs.Outcomes.{IsOutcome, AreReportsFor, IsReportFor, IsEvenTotal, IsEvenShelf, allocs_in, nulls_in, gets_in, left_in, granted_in, refused_in, fetched_in, JobsOutcome}
-use Rattle.worker_pool.specs.Places.{IsThere, Kept, all_in, bundles_of, counted, weight, weight_in, weight_of}
+use Rattle.job_list.specs.ReportLists.{Kept, all_in}
+use Rattle.worker_pool.specs.Places.{IsThere, bundles_of, counted, weight, weight_in, weight_of}
 use Rattle.worker_pool.specs.Serving.{AreServed, all_allocs, all_nulls, all_gets, reports_of}
 use Rattle.worker_pool.specs.Working.{Answers, granted_by, refused_by, fetched_by}
 use Rattle.worker_pool.proofs.EachKind.{closed_allocs, closed_even, closed_gets, closed_nulls, closed_shelves}

@@ -11,10 +11,11 @@ use Rattle.std.proofs.lemmas.List.Sums.{sum_by-cons, sum_by-set, sum_by_push}
 use Rattle.std.proofs.lemmas.Option.{slice_get-get_or}
 use Rattle.ebpf_machine.specs.declared.report.Report.{Report}
 use Rattle.ebpf_machine.proofs.Lists.ListLemmas.{All-by_contains, Contains-head, Contains-tail, get_set_other, get_set_same}
-use Rattle.worker_pool.specs.declared.jobs.Answered.{Answered}
-use Rattle.worker_pool.specs.declared.jobs.Bundle.{Bundle}
+use Rattle.worker_pool.specs.declared.bundles.Answered.{Answered}
+use Rattle.worker_pool.specs.declared.bundles.Bundle.{Bundle}
 use Rattle.worker_pool.specs.Numbering.{times_of}
-use Rattle.worker_pool.specs.Places.{AreBlank, ArePlaced, IsLeft, IsThere, Kept, bundles_of, filled, filled_at, weight, weight_in}
+use Rattle.job_list.specs.ReportLists.{Kept}
+use Rattle.worker_pool.specs.Places.{AreBlank, ArePlaced, IsLeft, IsThere, bundles_of, filled, filled_at, weight, weight_in}
 use Rattle.worker_pool.proofs.Bundles.{one_if, times_more}
 use Rattle.worker_pool.proofs.Flat.{flat_last}
 

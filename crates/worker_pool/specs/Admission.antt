@@ -1,7 +1,7 @@
 -- What is asked of jobs before any worker is started.
 use Rattle.std.specs.Prelude.{ℕ, Bool, false, not, ◌==◌, ◌||◌, nat_lt, if◌then◌else◌, List, length, position, Option, Some, None, slice_get}
 use Rattle.ebpf_verify.specs.Subject.{Subject}
-use Rattle.worker_pool.specs.declared.jobs.Job.{Job}
+use Rattle.job_list.specs.declared.jobs.Job.{Job}
 use Rattle.worker_pool.specs.declared.outcome.Host.{Host}
 use Rattle.vmem_arena.specs.declared.arena.TheConstants.{MAX_PAGES}
 use Rattle.worker_pool.specs.declared.admission.PoolFault.{PoolFault}

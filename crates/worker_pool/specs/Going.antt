@@ -8,7 +8,7 @@ use Rattle.ebpf_machine.specs.Whole.{granted, refused, fetched, is_granted, is_n
 use Rattle.ebpf_verify.specs.Subject.{Subject}
 use Rattle.worker_pool.specs.EachKind.{all_allocs, all_gets, hands_of}
 use Rattle.worker_pool.specs.declared.hands.Tools.{Tools}
-use Rattle.worker_pool.specs.declared.jobs.Job.{Job}
+use Rattle.job_list.specs.declared.jobs.Job.{Job}
 use Rattle.worker_pool.specs.Numbering.{Numbered, numbered}
 use Rattle.worker_pool.specs.declared.client.Client.{Client}
 use Rattle.worker_pool.specs.declared.each_kind.Stocks.{Stocks}

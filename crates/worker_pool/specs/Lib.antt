@@ -6,8 +6,6 @@ pub mod Counts
 pub mod Crews
 pub mod Going
 pub mod Hands
-pub mod FewAnswers
-pub mod JobReports
 pub mod Moves
 pub mod Numbering
 pub mod Outcomes
@@ -15,7 +13,6 @@ pub mod Places
 pub mod Serving
 pub mod EachKind
 pub mod Supplies
-pub mod JobLists
 pub mod Working
 pub mod Settling
 pub mod Sharing

@@ -8,7 +8,7 @@ use Rattle.owners_table.specs.Owning.{OwnersView, SeatView}
 use Rattle.worker_pool.specs.Claims.{lost}
 use Rattle.worker_pool.specs.declared.admission.PoolFault.{PoolFault}
 use Rattle.worker_pool.specs.declared.admission.PoolFault.TheVariants.{NoMemory}
-use Rattle.worker_pool.specs.declared.jobs.Job.{Job}
+use Rattle.job_list.specs.declared.jobs.Job.{Job}
 use Rattle.worker_pool.specs.declared.outcome.Outcome.{Outcome}
 use Rattle.worker_pool.specs.declared.outcome.ShelfTotals.{ShelfTotals}
 

@@ -1,19 +1,11 @@
 -- The reports of bundles in the places of their bundles.
-use Rattle.std.proofs.Common.{Vec, Global}
 use Rattle.std.specs.Prelude.{[], All, min, vec_len, ◌≡◌, ◌⊎◌, ◌+◌, ◌++◌, ◌<◌, ◌≤◌, ℕ, ◌==◌, if◌then◌else◌, List, Option, Some, None, Contains, length, slice_get, sum_by}
 use Rattle.std.specs.List.{flat_map}
 use Rattle.ebpf_machine.specs.declared.report.Report.{Report}
-use Rattle.worker_pool.specs.declared.jobs.Answered.{Answered}
-use Rattle.worker_pool.specs.declared.jobs.Bundle.{Bundle}
+use Rattle.job_list.specs.ReportLists.{Kept}
+use Rattle.worker_pool.specs.declared.bundles.Answered.{Answered}
+use Rattle.worker_pool.specs.declared.bundles.Bundle.{Bundle}
 use Rattle.worker_pool.specs.Numbering.{Numbered, times_of}
-
--- the reports of a bundle, as they are kept
-abbrev pub Kept : Type 0
-Kept = Vec Report Global
-
--- the reports of all bundles, one bundle after another
-abbrev pub all_in : List Kept → List Report
-all_in places = flat_map (λ kept. kept.items) places
 
 -- the bundles of several workers
 abbrev pub bundles_of : List Answered → List Bundle

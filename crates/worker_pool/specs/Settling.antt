@@ -7,14 +7,14 @@ use Rattle.owners_table.specs.Owning.{OwnersView, SeatView}
 use Rattle.worker_pool.specs.EachKind.{HaveHands, HaveMade}
 use Rattle.worker_pool.specs.declared.crew.Done.{Done}
 use Rattle.worker_pool.specs.declared.crew.Parts.{Parts}
-use Rattle.worker_pool.specs.declared.jobs.Job.{Job}
+use Rattle.job_list.specs.declared.jobs.Job.{Job}
 use Rattle.worker_pool.specs.declared.outcome.TheConstants.{MAX_JOBS}
 use Rattle.worker_pool.specs.declared.setup.Room.{Room}
 use Rattle.worker_pool.specs.declared.each_kind.Supplies.{Supplies}
 use Rattle.worker_pool.specs.Bundles.{IsBundleSize}
 use Rattle.worker_pool.specs.Numbering.{bundles_in}
 use Rattle.worker_pool.specs.Outcomes.{AreIdleAgain, IsOutcome, JobsOutcome}
-use Rattle.worker_pool.specs.Places.{Kept}
+use Rattle.job_list.specs.ReportLists.{Kept}
 use Rattle.worker_pool.specs.Serving.{AreServed}
 
 -- the room, the supplies, the parts of workers that had these seats and did these jobs, and memory for the places of their bundles

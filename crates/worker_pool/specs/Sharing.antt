@@ -4,13 +4,13 @@ use Rattle.std.specs.Prelude.{List}
 use Rattle.owners_table.specs.Owning.{OwnersView, SeatView}
 use Rattle.worker_pool.specs.declared.crew.Done.{Done}
 use Rattle.worker_pool.specs.declared.crew.Parts.{Parts}
-use Rattle.worker_pool.specs.declared.jobs.Job.{Job}
+use Rattle.job_list.specs.declared.jobs.Job.{Job}
 use Rattle.worker_pool.specs.declared.outcome.Host.{Host}
 use Rattle.worker_pool.specs.declared.setup.Room.{Room}
 use Rattle.worker_pool.specs.declared.each_kind.Supplies.{Supplies}
 use Rattle.worker_pool.specs.declared.worker.Shared.{Shared}
 use Rattle.worker_pool.specs.declared.worker.Worker.{Worker}
-use Rattle.worker_pool.specs.Places.{Kept}
+use Rattle.job_list.specs.ReportLists.{Kept}
 use Rattle.worker_pool.specs.Serving.{AreServed}
 use Rattle.worker_pool.specs.Settling.{AreLeft}
 use Rattle.worker_pool.specs.Working.{CanBegin, AreDone}

@@ -1,13 +1,12 @@
 //! What is asked of jobs before any worker is started, and why they were not done.
 
 ghost use Rattle.std.specs.Prelude.{◌≡◌, ◌↔◌, ◌≤◌, ◌<◌, Ok, Err, All, length, slice_get, position, IfSome, IfNone, IfErr, IfOk, OnOk};
-ghost use Rattle.worker_pool.specs.JobLists.{job_of};
+ghost use Rattle.job_list.specs.JobLists.{job_of};
 ghost use Rattle.worker_pool.specs.Admission.{has_program, has_context, without_program, without_context, job_fault, pool_fault};
 
-use crate::job_list::JobRef;
-use crate::job_source::JobSource;
 use crate::outcome::{Host, MAX_JOBS, MAX_WORKERS};
 use ebpf_verify::verified::Verified;
+use job_list::{JobRef, JobSource};
 use thiserror::Error;
 use vmem_arena::MAX_PAGES;
 

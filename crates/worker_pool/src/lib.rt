@@ -20,31 +20,24 @@
 //! job is in one bundle.
 //!
 //! To be read in this order: `ledgers`, `hands`, `supply`, `count`, `client`, `owned`, `stock`, `each_kind`, `store`,
-//! `few_answers`, `job_report`, `jobs`, `job_list`, `job_source`, `gate`, `worker`, `beside`, `crew`, `packed_reports`, `reports`,
-//! `outcome`, `admission`, `setup`, `place`, `pool`, `plain_jobs`.
+//! `bundles`, `gate`, `worker`, `beside`, `crew`, `outcome`, `admission`, `setup`, `place`, `pool`, `plain_jobs`.
 #![tactic(auto)]
 
 mod admission;
 mod beside;
+mod bundles;
 mod client;
 mod count;
 mod crew;
 mod each_kind;
-mod few_answers;
 mod gate;
 mod hands;
-mod job_list;
-mod job_report;
-mod job_source;
-mod jobs;
 mod ledgers;
 mod outcome;
 mod owned;
-mod packed_reports;
 mod place;
 mod plain_jobs;
 mod pool;
-mod reports;
 mod setup;
 mod stock;
 mod store;
@@ -52,13 +45,8 @@ mod supply;
 mod worker;
 
 pub use admission::PoolFault;
-pub use few_answers::FEW_ANSWERS;
 pub use gate::{Gate, NoGate, Point};
-pub use job_list::{JobRef, Jobs};
-pub use job_report::JobReport;
-pub use jobs::Job;
+pub use job_list::{FEW_ANSWERS, Job, JobRef, JobReport, Jobs, PackedReports, Reports, ReportsLeft};
 pub use outcome::{Host, MAX_JOBS, MAX_WORKERS, Outcome, ShelfTotals};
-pub use packed_reports::{PackedReports, ReportsLeft};
 pub use plain_jobs::run_jobs;
 pub use pool::run_job_list;
-pub use reports::Reports;

@@ -1,7 +1,7 @@
 //! What jobs are run with, and what comes of them.
 
-use crate::reports::Reports;
 use ebpf_verify::verified::Verified;
+use job_list::Reports;
 use object_cache::Totals;
 
 /// The most workers.

@@ -8,8 +8,8 @@ ghost use Rattle.ebpf_machine.specs.declared.report.Report.{Report};
 ghost use Rattle.worker_pool.specs.Numbering.{times_of};
 ghost use Rattle.worker_pool.specs.Places.{AreBlank, AreTheirsPlaced, IsThere, bundles_of, counted, weight, weight_in};
 
-use crate::job_report::JobReport;
-use crate::jobs::{Answered, Bundle};
+use crate::bundles::{Answered, Bundle};
+use job_list::JobReport;
 use std::alloc::Global;
 use std::mem;
 

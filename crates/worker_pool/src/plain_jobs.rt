@@ -10,13 +10,9 @@ ghost use Rattle.worker_pool.specs.Outcomes.{IsIdle, IsOutcome, AreIdleAgain, Is
 
 use crate::admission::{PoolFault, pool_fault};
 use crate::gate::Gate;
-use crate::job_list::Jobs;
-use crate::job_source::JobSlice;
-use crate::jobs::Job;
 use crate::outcome::{Host, Outcome};
-use crate::packed_reports::PackedReports;
 use crate::pool::run_job_list;
-use crate::reports::Reports;
+use job_list::{Job, JobSlice, Jobs, PackedReports, Reports};
 use owners_table::owners::{OwnerSeat, Owners};
 use std::alloc::{AllocError, Global};
 use std::sync::Wait;

@@ -7,11 +7,11 @@ ghost use Rattle.worker_pool.specs.Bundles.{IsBundleSize, IsShared};
 ghost use Rattle.worker_pool.specs.Crews.{IsPrepared};
 ghost use Rattle.worker_pool.specs.Numbering.{IsBlank, bundles_in};
 
+use crate::bundles::Answered;
 use crate::each_kind::{Blanks, FreeHands, Supplies};
-use crate::job_report::JobReport;
-use crate::jobs::Answered;
 use crate::ledgers::Names;
 use crate::worker::Worker;
+use job_list::JobReport;
 use object_cache::ArenaLock;
 use owners_table::tickets::{TicketSeat, Tickets};
 use std::alloc::{AllocError, Global};

@@ -22,19 +22,18 @@ ghost use Rattle.worker_pool.specs.Going.{AreAnswered, HasAnsweredAll, IsAnswere
 ghost use Rattle.worker_pool.specs.Numbering.{IsBlank, IsWhole, bundles_in, many_in, told_by};
 ghost use Rattle.worker_pool.specs.Working.{IsFresh, IsUnused, IsDone, IsServed, AreUsed, AreReady, Answers, HasDrawn};
 
+use crate::bundles::{Answered, Bundle};
 use crate::client::Client;
 use crate::each_kind::{Stocks, Supplies};
 use crate::gate::{Gate, Point};
 use crate::hands::Tools;
-use crate::job_list::Jobs;
-use crate::job_report::{JobReport, Rest};
-use crate::jobs::{Answered, Bundle};
 use crate::ledgers::Names;
 use crate::owned::Owned;
 use crate::store::Store;
 use ebpf_machine::whole::run_in_place;
 use ebpf_machine::workspace::Workspace;
 use ebpf_verify::verified::Verified;
+use job_list::{JobReport, Jobs, Rest};
 use object_cache::ArenaLock;
 use owners_table::owners::Owners;
 use owners_table::tickets::{TicketSeat, Tickets};

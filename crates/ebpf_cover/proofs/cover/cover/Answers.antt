@@ -1,7 +1,7 @@
 use Rattle.std.proofs.Common.{◌≡◌, ◌<◌, ◌+◌, ◌∷◌, List, Vec, Global, drop, length, get_or, refl, sym, ◌∙◌, subst, rules, arith}
 use Rattle.std.specs.Prelude.{IfOk}
 use Rattle.std.proofs.lemmas.Option.{slice_get_read}
-use Rattle.worker_pool.specs.JobLists.{job_of}
+use Rattle.job_list.specs.JobLists.{job_of}
 use Rattle.ebpf_cover.specs.declared.tally.Tally.{Tally}
 use Rattle.ebpf_cover.specs.Tallies.{AreTallies, AreSums}
 use Rattle.ebpf_cover.proofs.Summing.{HaveCounted, tallies_counted, blank_counted, job_counted_in, job_passed_in, all_ok, next_is, rest_is, some_left}

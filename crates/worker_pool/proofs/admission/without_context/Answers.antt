@@ -1,7 +1,7 @@
 use Rattle.std.proofs.Common.{◌≡◌, true, false, not, sym, ap}
-use Rattle.worker_pool.specs.declared.jobs.Job.{Job}
+use Rattle.job_list.specs.declared.jobs.Job.{Job}
 use Rattle.worker_pool.specs.Admission.{has_context}
-use Rattle.worker_pool.specs.JobLists.{job_of}
+use Rattle.job_list.specs.JobLists.{job_of}
 use Rattle.worker_pool.proofs.Searching.{first_passes, passed_over}
 use Rattle.worker_pool.proofs.admission.without_context.Goals as goal
 

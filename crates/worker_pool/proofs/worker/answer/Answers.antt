@@ -1,8 +1,8 @@
 use Rattle.std.proofs.Common.{◌≡◌, ◌<◌, length, [], ◌∷◌, ◌++◌, refl, sym, ap, subst, ◌∙◌}
 use Rattle.std.proofs.lemmas.Option.{get_or_from_slice_get, slice_get_read}
 use Rattle.ebpf_verify.specs.Subject.{Subject}
-use Rattle.worker_pool.specs.declared.jobs.Job.{Job}
-use Rattle.worker_pool.specs.JobLists.{job_of}
+use Rattle.job_list.specs.declared.jobs.Job.{Job}
+use Rattle.job_list.specs.JobLists.{job_of}
 use Rattle.worker_pool.specs.Numbering.{Numbered}
 use Rattle.ebpf_machine.specs.declared.report.Report.{Report}
 use Rattle.ebpf_machine.specs.Whole.{IsReportOf}

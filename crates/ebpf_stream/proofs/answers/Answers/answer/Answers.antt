@@ -1,6 +1,6 @@
 use Rattle.std.proofs.Common.{rules, ◌≡◌, ◌++◌, ℕ, List, Some, OnOk, sym, ◌∙◌, subst}
 use Rattle.std.specs.Prelude.{string_bytes}
-use Rattle.worker_pool.specs.declared.jobs.Job.{Job}
+use Rattle.job_list.specs.declared.jobs.Job.{Job}
 use Rattle.ebpf_stream.specs.Answering.{IsDone, position_of}
 use Rattle.ebpf_stream.specs.Feeding.{set_up}
 use Rattle.ebpf_stream.proofs.AnswerLemmas.{answered_job}

@@ -1,0 +1,4 @@
+pub mod FewAnswers
+pub mod JobReports
+pub mod JobLists
+pub mod ReportLists

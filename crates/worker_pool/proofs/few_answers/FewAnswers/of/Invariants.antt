@@ -1,9 +1,0 @@
-use Rattle.std.proofs.Common.{◌≡◌, ◌<◌, ◌-◌, ◌^◌, length, drop}
-use Rattle.worker_pool.specs.FewAnswers.{replies_from}
-use Rattle.worker_pool.proofs.few_answers.FewAnswers.of.Given as goal
-
-abbrev pub invariant-packing : goal.invariant-packing
-invariant-packing l = record {
-  fits : l.codes < 4 ^ l.done;
-  packed : replies_from l.done l.codes ≡ drop (length l.answers - l.done) l.answers;
-}
