@@ -5,7 +5,7 @@ use Rattle.std.proofs.lemmas.Bool.Decides.{nat_tests}
 use Rattle.std.proofs.lemmas.Grind.{div_ceil_times}
 use Rattle.std.proofs.lemmas.List.Sums.{sum_by_push}
 use Rattle.owners_table.specs.Drawing.{times}
-use Rattle.worker_pool.specs.declared.bundles.Bundle.{Bundle}
+use Rattle.worker_pool.specs.declared.answered.Bundle.{Bundle}
 use Rattle.worker_pool.specs.Numbering.{bundles_in, times_of}
 
 abbrev pub one_if : ℕ → ℕ → ℕ

@@ -5,8 +5,8 @@ use Rattle.std.specs.List.{flat_map, slice_get}
 use Rattle.std.proofs.lemmas.List.Sums.{sum_by-cons}
 use Rattle.ebpf_machine.proofs.Lists.ListLemmas.{Contains-head, Contains-tail}
 use Rattle.ebpf_machine.specs.declared.report.Report.{Report}
-use Rattle.worker_pool.specs.declared.bundles.Answered.{Answered}
-use Rattle.worker_pool.specs.declared.bundles.Bundle.{Bundle}
+use Rattle.worker_pool.specs.declared.answered.Answered.{Answered}
+use Rattle.worker_pool.specs.declared.answered.Bundle.{Bundle}
 use Rattle.worker_pool.specs.Numbering.{Numbered, numbered, told_by, told_of}
 use Rattle.worker_pool.specs.Places.{weight_of}
 use Rattle.worker_pool.proofs.Flat.{flat_last}

@@ -15,8 +15,8 @@ use Rattle.owners_table.specs.Owning.{OwnersView, SeatView}
 use Rattle.owners_table.specs.Drawing.{TicketsView, times_drawn}
 use Rattle.worker_pool.specs.EachKind.{AreClosed}
 use Rattle.worker_pool.specs.declared.worker.Ending.TheVariants.{Through}
-use Rattle.worker_pool.specs.declared.bundles.Answered.{Answered}
-use Rattle.worker_pool.specs.declared.bundles.Bundle.{Bundle}
+use Rattle.worker_pool.specs.declared.answered.Answered.{Answered}
+use Rattle.worker_pool.specs.declared.answered.Bundle.{Bundle}
 use Rattle.job_list.specs.declared.jobs.Job.{Job}
 use Rattle.worker_pool.specs.declared.outcome.TheConstants.{MAX_JOBS}
 use Rattle.worker_pool.specs.Numbering.{bundles_in, numbered, times_of, told_by, told_of}

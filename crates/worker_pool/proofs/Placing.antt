@@ -11,8 +11,8 @@ use Rattle.std.proofs.lemmas.List.Sums.{sum_by-cons, sum_by-set, sum_by_push}
 use Rattle.std.proofs.lemmas.Option.{slice_get-get_or}
 use Rattle.ebpf_machine.specs.declared.report.Report.{Report}
 use Rattle.ebpf_machine.proofs.Lists.ListLemmas.{All-by_contains, Contains-head, Contains-tail, get_set_other, get_set_same}
-use Rattle.worker_pool.specs.declared.bundles.Answered.{Answered}
-use Rattle.worker_pool.specs.declared.bundles.Bundle.{Bundle}
+use Rattle.worker_pool.specs.declared.answered.Answered.{Answered}
+use Rattle.worker_pool.specs.declared.answered.Bundle.{Bundle}
 use Rattle.worker_pool.specs.Numbering.{times_of}
 use Rattle.job_list.specs.ReportLists.{Kept}
 use Rattle.worker_pool.specs.Places.{AreBlank, ArePlaced, IsLeft, IsThere, bundles_of, filled, filled_at, weight, weight_in}

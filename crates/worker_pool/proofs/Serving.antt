@@ -7,7 +7,7 @@ use Rattle.owners_table.specs.Drawing.{TicketsView, IsOf, times}
 use Rattle.worker_pool.specs.EachKind.{all_allocs, all_nulls, all_gets, IsEven}
 use Rattle.worker_pool.specs.declared.worker.Ending.TheVariants.{Through, OutOfMemory}
 use Rattle.job_list.specs.declared.jobs.Job.{Job}
-use Rattle.worker_pool.specs.declared.bundles.Answered.{Answered}
+use Rattle.worker_pool.specs.declared.answered.Answered.{Answered}
 use Rattle.worker_pool.specs.Numbering.{IsWhole, Numbered, bundles_in, times_of, told_by}
 use Rattle.worker_pool.specs.declared.worker.Worker.{Worker}
 use Rattle.worker_pool.specs.declared.hands.Tools.{Tools}

@@ -6,7 +6,7 @@ use Rattle.std.proofs.lemmas.List.Sums.{sum_by-cons}
 use Rattle.owners_table.specs.Drawing.{TicketView, times}
 use Rattle.worker_pool.specs.declared.worker.Ending.{Ending}
 use Rattle.worker_pool.specs.declared.worker.Ending.TheVariants.{Through, Unstarted, OutOfMemory}
-use Rattle.worker_pool.specs.declared.bundles.Bundle.{Bundle}
+use Rattle.worker_pool.specs.declared.answered.Bundle.{Bundle}
 use Rattle.worker_pool.specs.Bundles.{AreAsDrawn}
 use Rattle.worker_pool.specs.Numbering.{times_of}
 use Rattle.worker_pool.specs.Working.{HasDrawn}

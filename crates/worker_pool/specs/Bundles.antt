@@ -2,7 +2,7 @@
 use Rattle.std.specs.Prelude.{◌≡◌, ◌⊎◌, ◌*◌, ◌<◌, ◌≤◌, ℕ, List}
 use Rattle.owners_table.specs.Drawing.{times}
 use Rattle.worker_pool.specs.Numbering.{times_of}
-use Rattle.worker_pool.specs.declared.bundles.Bundle.{Bundle}
+use Rattle.worker_pool.specs.declared.answered.Bundle.{Bundle}
 use Rattle.worker_pool.specs.declared.setup.TheConstants.{MAX_BUNDLE, MIN_BUNDLES}
 
 abbrev pub IsBundleSize : ℕ → Type 0

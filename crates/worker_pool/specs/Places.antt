@@ -3,8 +3,8 @@ use Rattle.std.specs.Prelude.{[], All, min, vec_len, ◌≡◌, ◌⊎◌, ◌+�
 use Rattle.std.specs.List.{flat_map}
 use Rattle.ebpf_machine.specs.declared.report.Report.{Report}
 use Rattle.job_list.specs.ReportLists.{Kept}
-use Rattle.worker_pool.specs.declared.bundles.Answered.{Answered}
-use Rattle.worker_pool.specs.declared.bundles.Bundle.{Bundle}
+use Rattle.worker_pool.specs.declared.answered.Answered.{Answered}
+use Rattle.worker_pool.specs.declared.answered.Bundle.{Bundle}
 use Rattle.worker_pool.specs.Numbering.{Numbered, times_of}
 
 -- the bundles of several workers

@@ -8,8 +8,8 @@ use Rattle.worker_pool.specs.declared.worker.Ending.{Ending}
 use Rattle.worker_pool.specs.declared.worker.Ending.TheVariants.{Through, Unstarted, OutOfMemory}
 use Rattle.ebpf_machine.specs.Kinds.{AreKnown}
 use Rattle.worker_pool.specs.declared.outcome.TheConstants.{MAX_JOBS}
-use Rattle.worker_pool.specs.declared.bundles.Answered.{Answered}
-use Rattle.worker_pool.specs.declared.bundles.Bundle.{Bundle}
+use Rattle.worker_pool.specs.declared.answered.Answered.{Answered}
+use Rattle.worker_pool.specs.declared.answered.Bundle.{Bundle}
 use Rattle.job_list.specs.declared.jobs.Job.{Job}
 use Rattle.worker_pool.specs.Numbering.{IsBlank, IsWhole, Numbered, bundles_in, told_by}
 use Rattle.worker_pool.specs.declared.worker.Worker.{Worker}

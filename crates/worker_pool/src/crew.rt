@@ -6,8 +6,8 @@ ghost use Rattle.worker_pool.specs.Sharing.{AreDoneWith, CanBeginWith};
 ghost use Rattle.worker_pool.specs.Working.{IsFresh};
 ghost use denote.Param.Send.{IsSync};
 
+use crate::answered::Answered;
 use crate::beside::{Errand, beside};
-use crate::bundles::Answered;
 use crate::each_kind::FreeHands;
 use crate::gate::{Gate, Point};
 use crate::hands::Tools;
@@ -16,8 +16,8 @@ use crate::worker::{Ending, Shared, Worker, work};
 use owners_table::owners::OwnerSeat;
 use owners_table::tickets::TicketSeat;
 use std::sync::Wait;
-use std::thread::Threads;
 use std::thread;
+use std::thread::Threads;
 
 /// For each worker its hands, its seats and what it did.
 pub(crate) struct Parts<L: Names> {

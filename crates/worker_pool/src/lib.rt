@@ -20,12 +20,12 @@
 //! job is in one bundle.
 //!
 //! To be read in this order: `ledgers`, `hands`, `supply`, `count`, `client`, `owned`, `stock`, `each_kind`, `store`,
-//! `bundles`, `gate`, `worker`, `beside`, `crew`, `outcome`, `admission`, `setup`, `place`, `pool`, `plain_jobs`.
+//! `answered`, `gate`, `worker`, `beside`, `crew`, `outcome`, `admission`, `setup`, `place`, `pool`, `plain_jobs`.
 #![tactic(auto)]
 
 mod admission;
+mod answered;
 mod beside;
-mod bundles;
 mod client;
 mod count;
 mod crew;
@@ -46,7 +46,9 @@ mod worker;
 
 pub use admission::PoolFault;
 pub use gate::{Gate, NoGate, Point};
-pub use job_list::{FEW_ANSWERS, Job, JobRef, JobReport, Jobs, PackedReports, Reports, ReportsLeft};
+pub use job_list::{
+    FEW_ANSWERS, Job, JobRef, JobReport, Jobs, PackedReports, Reports, ReportsLeft,
+};
 pub use outcome::{Host, MAX_JOBS, MAX_WORKERS, Outcome, ShelfTotals};
 pub use plain_jobs::run_jobs;
 pub use pool::run_job_list;

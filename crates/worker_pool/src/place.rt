@@ -8,7 +8,7 @@ ghost use Rattle.ebpf_machine.specs.declared.report.Report.{Report};
 ghost use Rattle.worker_pool.specs.Numbering.{times_of};
 ghost use Rattle.worker_pool.specs.Places.{AreBlank, AreTheirsPlaced, IsThere, bundles_of, counted, weight, weight_in};
 
-use crate::bundles::{Answered, Bundle};
+use crate::answered::{Answered, Bundle};
 use job_list::JobReport;
 use std::alloc::Global;
 use std::mem;

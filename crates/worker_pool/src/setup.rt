@@ -7,7 +7,7 @@ ghost use Rattle.worker_pool.specs.Bundles.{IsBundleSize, IsShared};
 ghost use Rattle.worker_pool.specs.Crews.{IsPrepared};
 ghost use Rattle.worker_pool.specs.Numbering.{IsBlank, bundles_in};
 
-use crate::bundles::Answered;
+use crate::answered::Answered;
 use crate::each_kind::{Blanks, FreeHands, Supplies};
 use crate::ledgers::Names;
 use crate::worker::Worker;

@@ -22,7 +22,7 @@ ghost use Rattle.worker_pool.specs.Going.{AreAnswered, HasAnsweredAll, IsAnswere
 ghost use Rattle.worker_pool.specs.Numbering.{IsBlank, IsWhole, bundles_in, many_in, told_by};
 ghost use Rattle.worker_pool.specs.Working.{IsFresh, IsUnused, IsDone, IsServed, AreUsed, AreReady, Answers, HasDrawn};
 
-use crate::bundles::{Answered, Bundle};
+use crate::answered::{Answered, Bundle};
 use crate::client::Client;
 use crate::each_kind::{Stocks, Supplies};
 use crate::gate::{Gate, Point};

@@ -2,7 +2,7 @@ use Rattle.std.proofs.Common.{◌<◌, ◌++◌, All, List, ap, subst, sym, ◌�
 use Rattle.std.specs.Prelude.{vec_len}
 use Rattle.std.proofs.lemmas.List.{length-set, nil_from_length}
 use Rattle.owners_table.proofs.Joining.{all_front, all_last}
-use Rattle.worker_pool.specs.declared.bundles.Bundle.{Bundle}
+use Rattle.worker_pool.specs.declared.answered.Bundle.{Bundle}
 use Rattle.job_list.specs.ReportLists.{Kept}
 use Rattle.worker_pool.specs.Places.{ArePlaced}
 use Rattle.worker_pool.proofs.Placing.{one_of_theirs}

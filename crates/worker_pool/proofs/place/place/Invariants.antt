@@ -1,6 +1,6 @@
 use Rattle.std.proofs.Common.{◌≡◌, ◌<◌, ◌++◌, All, List, length}
 use Rattle.std.specs.Prelude.{vec_len}
-use Rattle.worker_pool.specs.declared.bundles.Bundle.{Bundle}
+use Rattle.worker_pool.specs.declared.answered.Bundle.{Bundle}
 use Rattle.worker_pool.specs.Places.{ArePlaced}
 use Rattle.worker_pool.proofs.place.place.Given as goal
 

@@ -1,7 +1,7 @@
 use Rattle.std.proofs.Common.{◌≡◌, ◌<◌, All, [], ℕ, refl, sym, ap, subst, ◌∙◌, arith}
 use Rattle.std.specs.Prelude.{vec_len}
 use Rattle.std.proofs.lemmas.List.{nil_from_length}
-use Rattle.worker_pool.specs.declared.bundles.Bundle.{Bundle}
+use Rattle.worker_pool.specs.declared.answered.Bundle.{Bundle}
 use Rattle.worker_pool.specs.Places.{ArePlaced, AreTheirsPlaced, bundles_of}
 use Rattle.worker_pool.proofs.Placing.{all_there, all_weighed, last_bundles, none_placed, theirs_inside}
 use Rattle.worker_pool.proofs.place.place_all.Goals.{After-drop-answered}

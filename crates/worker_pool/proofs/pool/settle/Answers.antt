@@ -11,7 +11,7 @@ use Rattle.worker_pool.specs.declared.crew.Done.{Done}
 use Rattle.worker_pool.specs.declared.crew.Parts.{Parts}
 use Rattle.job_list.specs.declared.jobs.Job.{Job}
 use Rattle.worker_pool.specs.declared.outcome.ShelfTotals.{ShelfTotals}
-use Rattle.worker_pool.specs.declared.bundles.Bundle.{Bundle}
+use Rattle.worker_pool.specs.declared.answered.Bundle.{Bundle}
 use Rattle.worker_pool.specs.Outcomes.{AreIdleAgain, JobsOutcome}
 use Rattle.worker_pool.specs.Numbering.{bundles_in}
 use Rattle.worker_pool.specs.Places.{bundles_of, counted}

@@ -2,7 +2,7 @@ use Rattle.std.proofs.Common.{rules, ◌≡◌, All, List, [], ◌∷◌, ◌++�
 use Rattle.std.specs.Prelude.{MatchBool}
 use Rattle.std.proofs.lemmas.List.Elements.{All-append, All-push}
 use Rattle.owners_table.specs.Drawing.{TicketView, IsOf, times}
-use Rattle.worker_pool.specs.declared.bundles.Bundle.{Bundle}
+use Rattle.worker_pool.specs.declared.answered.Bundle.{Bundle}
 use Rattle.worker_pool.specs.Numbering.{IsWhole, Numbered, told_by, told_of}
 use Rattle.worker_pool.specs.Working.{Answers}
 use Rattle.worker_pool.proofs.Answering.{answered_all}

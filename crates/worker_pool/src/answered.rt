@@ -1,4 +1,4 @@
-//! Bundles of reports, as workers answer them.
+//! What workers answer: a list of reports for each bundle.
 
 ghost use Rattle.worker_pool.specs.Numbering.{IsBlank};
 
