@@ -26,8 +26,8 @@ use ebpf_machine::run::Run;
 use ebpf_machine::workspace::Workspace;
 use ebpf_shelves::object::Object;
 use ebpf_verify::verified::Verified;
+use job_list::{FEW_ANSWERS, JobReport, Jobs, PackedReports};
 use std::alloc::{AllocError, Global};
-use worker_pool::{FEW_ANSWERS, JobReport, Jobs, PackedReports};
 
 /// Counts what the jobs of each program executed, by their reports: each is run once more, alone.
 ///

@@ -16,8 +16,8 @@ use crate::words::Words;
 use ebpf_command::done::{FaultCode, Stop};
 use ebpf_command::hex_text::hex_or_dash;
 use ebpf_machine::context::Context;
+use job_list::Job;
 use std::alloc::Global;
-use worker_pool::Job;
 
 /// The job that a line asks for, of a program of this script; `None` where the line is blank or a comment. The program of the last job
 /// is looked at first, so its number spares a search; any other number, or none, gives the same job.

@@ -12,9 +12,9 @@ use crate::script::{Dialect, Script, ScriptFault, ScriptStop};
 use ebpf_command::done::FaultCode;
 use ebpf_command::input::MAX_INPUT;
 use indexmap::IndexMap;
+use job_list::Jobs;
 use std::alloc::Global;
 use std::hash::BuildHasherDefault;
-use worker_pool::Jobs;
 
 /// The script that a text of this dialect is parsed to.
 ///

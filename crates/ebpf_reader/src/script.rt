@@ -8,8 +8,8 @@ use ebpf_command::done::{FaultCode, Stop};
 use ebpf_core::event::Event;
 use ebpf_verify::decl::Decl;
 use indexmap::IndexMap;
+use job_list::Jobs;
 use std::hash::{BuildHasherDefault, DefaultHasher};
-use worker_pool::Jobs;
 
 /// Which lines a script may have beside its programs.
 #[derive(Clone, Copy)]
