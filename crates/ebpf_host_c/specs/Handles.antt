@@ -7,8 +7,8 @@ use Rattle.std.specs.declared.sync.Arc.{Arc}
 use Rattle.ebpf_host.specs.declared.program.Program.{Program}
 use Rattle.ebpf_host.specs.declared.stocks.Stocks.{Stocks}
 use Rattle.ebpf_host.specs.Stocks.{stock_of}
-use Rattle.ebpf_host_c.specs.declared.told.Reported.{Reported}
-use Rattle.ebpf_host_c.specs.Told.{IsReportTold}
+use Rattle.ebpf_host_c.specs.declared.reported.Reported.{Reported}
+use Rattle.ebpf_host_c.specs.Reported.{IsReportWritten}
 
 -- both handles hold a program, and it is the same
 abbrev pub HoldTheSame : Option (Arc Program Global) → Option (Arc Program Global) → Type 0
@@ -27,7 +27,7 @@ abbrev pub ShelvesStay : Stocks → Stocks → Type 0
 ShelvesStay before after = (kind : ℕ) → (stock_of after kind).shelf ≡ (stock_of before kind).shelf
 
 -- the handles held a program and a machine, the machine is still held, and what C reads is the report of the run
-abbrev pub IsRunTold : Option (Arc Program Global) → Option Stocks → Option Stocks → List ℕ → ℕ → List ℕ → List ℕ → Reported → Type 0
-IsRunTold program old new context limit room output told =
+abbrev pub IsRunReported : Option (Arc Program Global) → Option Stocks → Option Stocks → List ℕ → ℕ → List ℕ → List ℕ → Reported → Type 0
+IsRunReported program old new context limit room output filled =
     MatchOption program ⊥ (λ p. MatchOption old ⊥ (λ before. MatchOption new ⊥ (λ after.
-    IsReportTold before after (arc_value p).verified context limit room output told)))
+    IsReportWritten before after (arc_value p).verified context limit room output filled)))

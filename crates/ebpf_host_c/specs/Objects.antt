@@ -13,8 +13,8 @@ use Rattle.ebpf_verify.specs.Subject.{Subject}
 use Rattle.ebpf_command.specs.Codes.{refusal_name}
 use Rattle.ebpf_host.specs.declared.refusal.Refusal.{Refusal}
 use Rattle.ebpf_host.specs.Loading.{IsLoaded, IsRefusedAs}
-use Rattle.ebpf_host_c.specs.declared.told.Refused.{Refused}
-use Rattle.ebpf_host_c.specs.Told.{IsTold}
+use Rattle.ebpf_host_c.specs.declared.reported.Refused.{Refused}
+use Rattle.ebpf_host_c.specs.Reported.{IsReported}
 
 -- the slot that needs another part of the file, at most the greatest number of 32 bits; 0 for the other faults
 abbrev pub fault_slot : ObjectFault → ℕ
@@ -43,16 +43,16 @@ line_under None = []
 line_under (Some h) = place_row h.lines h.line
 
 -- what C is given of a refusal of a function: the sentence, and under it the line of C that holds at the slot
-pub record IsTellingOf (r : Refusal) (file : List ℕ) (p : Place) (room text : List ℕ) (told : Refused) : Type 0 where
+pub record IsReportedWithLine (r : Refusal) (file : List ℕ) (p : Place) (room text : List ℕ) (filled : Refused) : Type 0 where
   pub line : Option HoldingLine
   pub line_is : IsHoldingLine file p (p.from + 8 * r.slot) line
-  pub told_as : IsTold (refusal_name r.code) r.slot (string_bytes r.sentence ++ line_under line) room text told
+  pub reported_as : IsReported (refusal_name r.code) r.slot (string_bytes r.sentence ++ line_under line) room text filled
 
 -- a function's slots are refused
-pub record IsRefusalOf (file : List ℕ) (f : Function) (context held : ℕ) (room text : List ℕ) (told : Refused) : Type 0 where
+pub record IsRefusalOf (file : List ℕ) (f : Function) (context held : ℕ) (room text : List ℕ) (filled : Refused) : Type 0 where
   pub refusal : Refusal
   pub is : IsRefusedAs f.code.now context held refusal
-  pub telling : IsTellingOf refusal file f.place room text told
+  pub reported_with_line : IsReportedWithLine refusal file f.place room text filled
 
 -- the line of C of a fault is that of the slot that needs another part of the file
 abbrev pub IsLineOfFault : List ℕ → ObjectFault → Option HoldingLine → Type 0
@@ -60,13 +60,13 @@ IsLineOfFault file (Outside o) line = IsHoldingLine file o.place o.at line
 IsLineOfFault file _ line = line ≡ None
 
 -- what C is given of a fault of the file
-pub record IsFaultTold (file : List ℕ) (e : ObjectFault) (room text : List ℕ) (told : Refused) : Type 0 where
+pub record IsFaultReported (file : List ℕ) (e : ObjectFault) (room text : List ℕ) (filled : Refused) : Type 0 where
   pub line : Option HoldingLine
   pub line_is : IsLineOfFault file e line
-  pub told_as : IsTold (object_code e) (fault_slot e) (fault_line e ++ line_under line) room text told
+  pub reported_as : IsReported (object_code e) (fault_slot e) (fault_line e ++ line_under line) room text filled
 
 -- the file has the function, whose slots are refused, or has no such program
 abbrev pub IsFunctionRefused : (file name : List ℕ) (context held : ℕ) (room text : List ℕ) → Refused → Type 0
-IsFunctionRefused file name context held room text told =
-    ((f : Function) × IsWanted file name f × IsRefusalOf file f context held room text told)
-    ⊎ ((e : ObjectFault) × IsWantedFault file name e × IsFaultTold file e room text told)
+IsFunctionRefused file name context held room text filled =
+    ((f : Function) × IsWanted file name f × IsRefusalOf file f context held room text filled)
+    ⊎ ((e : ObjectFault) × IsWantedFault file name e × IsFaultReported file e room text filled)

@@ -10,11 +10,11 @@ ghost use Rattle.vmem_arena.specs.declared.arena.TheConstants.{MAX_PAGES};
 ghost use Rattle.ebpf_host.specs.Stocks.{stock_of};
 ghost use Rattle.ebpf_handle.specs.declared.view.ProgramView.{ProgramView};
 ghost use Rattle.ebpf_handle.specs.contracts.view.ProgramView.{the_row as view_row};
-ghost use Rattle.ebpf_host_c.specs.Handles.{IsRunTold, MachineGoes, PagesStay, ShelvesStay};
-ghost use Rattle.ebpf_host_c.specs.Told.{IsReportTold};
+ghost use Rattle.ebpf_host_c.specs.Handles.{IsRunReported, MachineGoes, PagesStay, ShelvesStay};
+ghost use Rattle.ebpf_host_c.specs.Reported.{IsReportWritten};
 
+use crate::reported::{Reported, write_report};
 use crate::status::{CONTEXT, DONE, EMPTY, NO_MEMORY, PAGES};
-use crate::told::{Reported, tell_report};
 use ebpf_handle::machine::MachineHandle;
 use ebpf_handle::program::ProgramHandle;
 use ebpf_handle::view::ProgramView;
@@ -56,7 +56,7 @@ pub extern "C" fn ebpf_machine_free(alloc: Global, machine: &mut MachineHandle)
 /// Gives the pages of a machine on which there is no object that is held or is on a shelf back to its arena.
 #[unsafe(no_mangle)]
 pub extern "C" fn ebpf_machine_reap(machine: &mut MachineHandle) -> u32
-    ensures told { MatchOption machine.old.value (result ≡ 5) (λ _. result ≡ 0) }
+    ensures status { MatchOption machine.old.value (result ≡ 5) (λ _. result ≡ 0) }
     ensures shelves { MachineGoes ShelvesStay machine.old.value machine.new.value }
     ensures pages { MachineGoes PagesStay machine.old.value machine.new.value }
 {
@@ -89,7 +89,7 @@ pub unsafe extern "C" fn ebpf_machine_run(
     requires* lasts { sem 𝓛 (flft loan.0 loan.1) }
     requires* lent { sem 𝓛 (lent_at view_row program loan.2 loan.0) }
     ensures* lasts { sem 𝓛 (flft loan.0 loan.1) }
-    ensures report { result ≡ 0 → IsRunTold loan.2.value machine.old.value machine.new.value context.now limit output.old output.new report.new }
+    ensures report { result ≡ 0 → IsRunReported loan.2.value machine.old.value machine.new.value context.now limit output.old output.new report.new }
     ensures pages { MachineGoes PagesStay machine.old.value machine.new.value }
     ensures unchanged { result ≢ 0 → machine.new.value ≡ machine.old.value }
     ensures unmade { result ≢ 0 → (output.new ≡ output.old) × (report.new ≡ report.old) }
@@ -116,7 +116,7 @@ fn run_shown(
     output: &mut [u64],
     report: &mut Reported,
 ) -> u32
-    ensures report { result ≡ 0 → IsRunTold program.now.value machine.old.value machine.new.value context.now limit output.old output.new report.new }
+    ensures report { result ≡ 0 → IsRunReported program.now.value machine.old.value machine.new.value context.now limit output.old output.new report.new }
     ensures pages { MachineGoes PagesStay machine.old.value machine.new.value }
     ensures unchanged { result ≢ 0 → machine.new.value ≡ machine.old.value }
     ensures unmade { result ≢ 0 → (output.new ≡ output.old) × (report.new ≡ report.old) }
@@ -143,7 +143,7 @@ fn run_held(
     output: &mut [u64],
     report: &mut Reported,
 ) -> u32
-    ensures report { result ≡ 0 → IsReportTold machine.old machine.new program.now.verified context.now limit output.old output.new report.new }
+    ensures report { result ≡ 0 → IsReportWritten machine.old machine.new program.now.verified context.now limit output.old output.new report.new }
     ensures pages { machine.new.arena.pages ≡ machine.old.arena.pages }
     ensures unchanged { result ≢ 0 → machine.new ≡ machine.old }
     ensures unmade { result ≢ 0 → (output.new ≡ output.old) × (report.new ≡ report.old) }
@@ -153,7 +153,7 @@ fn run_held(
 {
     match machine.run_in_place(program, context, limit) {
         Ok(ended) => {
-            tell_report(&ended, output, report);
+            write_report(&ended, output, report);
             machine.keep(ended);
             DONE
         }

@@ -5,11 +5,11 @@ ghost use Rattle.std.specs.Arc.{arc_value};
 ghost use Rattle.std.specs.Option.{MatchOption};
 ghost use Rattle.ebpf_host.specs.Loading.{IsLoaded};
 ghost use Rattle.ebpf_host_c.specs.Objects.{HasFault, HasFunction, IsFunctionLoaded, IsFunctionRefused, IsRefusalOf};
-ghost use Rattle.ebpf_host_c.specs.Told.{IsRefusalTold};
+ghost use Rattle.ebpf_host_c.specs.Reported.{IsRefusalReported};
 
+use crate::reported::{Refused, report_fault, report_refusal, report_refusal_with_line};
 use crate::share::keep;
 use crate::status::{DECLARATION, NO_MEMORY, REFUSED};
-use crate::told::{Refused, tell_fault, tell_refusal, tell_refusal_of};
 use ebpf_handle::program::ProgramHandle;
 use ebpf_host::program::Program;
 use ebpf_host::refusal::LoadFault;
@@ -29,7 +29,7 @@ pub extern "C" fn ebpf_program_load(
     refused: &mut Refused,
 ) -> u32
     ensures loaded { result ≡ 0 → MatchOption program.new.value ⊥ (λ p. IsLoaded bytes.now context held (arc_value p).verified) }
-    ensures refused { result ≡ 1 → IsRefusalTold bytes.now context held text.old text.new refused.new }
+    ensures refused { result ≡ 1 → IsRefusalReported bytes.now context held text.old text.new refused.new }
     ensures untold { result ≢ 1 → (text.new ≡ text.old) × (refused.new ≡ refused.old) }
     ensures declaration { result ≡ 2 → (4096 < context) ⊎ (64 < held) }
     ensures memory { result ≡ 6 → (context ≤ 4096) × (held ≤ 64) }
@@ -39,7 +39,7 @@ pub extern "C" fn ebpf_program_load(
     match Program::load(alloc, bytes, context, held) {
         Ok(loaded) => keep(alloc, program, loaded),
         Err(LoadFault::Refused(refusal)) => {
-            tell_refusal(refusal, text, refused);
+            report_refusal(refusal, text, refused);
             REFUSED
         }
         Err(LoadFault::Declaration) => DECLARATION,
@@ -76,7 +76,7 @@ pub extern "C" fn ebpf_program_load_elf(
                 alloc, program, bytes, function, context, held, text, refused,
             )
         }
-        Err(fault) => match tell_fault(alloc, bytes, fault, text, refused) {
+        Err(fault) => match report_fault(alloc, bytes, fault, text, refused) {
             Ok(()) => REFUSED,
             Err(AllocError) => NO_MEMORY,
         },
@@ -106,7 +106,7 @@ fn load_function(
     match Program::load(alloc, function.code, context, held) {
         Ok(loaded) => keep(alloc, program, loaded),
         Err(LoadFault::Refused(refusal)) => {
-            match tell_refusal_of(refusal, file, function.place, text, refused) {
+            match report_refusal_with_line(refusal, file, function.place, text, refused) {
                 Ok(()) => REFUSED,
                 Err(AllocError) => NO_MEMORY,
             }

@@ -34,7 +34,7 @@ use Rattle.std.proofs.alloc.Shapes.{after}
 use Rattle.std.proofs.raw_atomic.Walks.{proved, leaves}
 use Rattle.ebpf_handle.specs.contracts.machine.MachineHandle.{the_row as machine_row}
 use Rattle.ebpf_handle.specs.contracts.view.ProgramView.{the_row as view_row}
-use Rattle.ebpf_host_c.specs.contracts.told.Reported.{the_row as report_row}
+use Rattle.ebpf_host_c.specs.contracts.reported.Reported.{the_row as report_row}
 use Rattle.ebpf_host_c.specs.contracts.machine.run_shown as g
 use Rattle.ebpf_host_c.proofs.machine.run_shown.Met.{met}
 use Rattle.ebpf_host_c.specs.contracts.machine.ebpf_machine_run as f

@@ -3,8 +3,8 @@
 ghost use Rattle.std.specs.Prelude.{◌≡◌, ◌≤◌, ◌++◌, ◌∷◌, [], OnOk, OnErr, filter, is_some, length, string_bytes, unwrap_or};
 ghost use Rattle.ebpf_machine.specs.Whole.{is_granted, is_null, is_fetched};
 ghost use Rattle.ebpf_command.specs.Codes.{refusal_name};
-ghost use Rattle.ebpf_host_c.specs.Objects.{IsFaultTold, IsLineOfFault, IsTellingOf, fault_slot, line_under};
-ghost use Rattle.ebpf_host_c.specs.Told.{IsTold, copied, is_empty};
+ghost use Rattle.ebpf_host_c.specs.Objects.{IsFaultReported, IsLineOfFault, IsReportedWithLine, fault_slot, line_under};
+ghost use Rattle.ebpf_host_c.specs.Reported.{IsReported, copied, is_empty};
 
 use ebpf_host::refusal::Refusal;
 use ebpf_machine::ended::Ended;
@@ -73,8 +73,8 @@ fn copy_ended(sentence: &[u8], text: &mut [u8])
 }
 
 // Tells a code, a slot and a sentence.
-fn tell(code: &str, slot: u32, sentence: &[u8], text: &mut [u8], refused: &mut Refused)
-    ensures { IsTold code.now slot sentence.now text.old text.new refused.new }
+fn report_as(code: &str, slot: u32, sentence: &[u8], text: &mut [u8], refused: &mut Refused)
+    ensures { IsReported code.now slot sentence.now text.old text.new refused.new }
 {
     let mut letters = [0; 4];
     copy(code.as_bytes(), &mut letters);
@@ -87,12 +87,12 @@ fn tell(code: &str, slot: u32, sentence: &[u8], text: &mut [u8], refused: &mut R
 }
 
 /// Tells a refusal.
-pub(crate) fn tell_refusal(refusal: Refusal, text: &mut [u8], refused: &mut Refused)
-    ensures { IsTold (refusal_name refusal.code) refusal.slot (string_bytes refusal.sentence) text.old text.new refused.new }
+pub(crate) fn report_refusal(refusal: Refusal, text: &mut [u8], refused: &mut Refused)
+    ensures { IsReported (refusal_name refusal.code) refusal.slot (string_bytes refusal.sentence) text.old text.new refused.new }
 {
     let code = refusal.code.name();
     let slot = u32::from(refusal.slot);
-    tell(code, slot, refusal.sentence.as_bytes(), text, refused);
+    report_as(code, slot, refusal.sentence.as_bytes(), text, refused);
 }
 
 // The slot of a fault.
@@ -122,7 +122,7 @@ fn add_line(sentence: &mut String, holding: Option<HoldingLine<'_>>) -> Result<(
 }
 
 /// Tells a refusal of a function of an object file, with the line of C that holds at its slot. It fails only where an allocation fails.
-pub(crate) fn tell_refusal_of(
+pub(crate) fn report_refusal_with_line(
     refusal: Refusal,
     file: &[u8],
     place: Place,
@@ -130,7 +130,7 @@ pub(crate) fn tell_refusal_of(
     refused: &mut Refused,
 ) -> Result<(), AllocError>
     requires { place.from ≤ length file.now }
-    ensures told { OnOk result (IsTellingOf refusal file.now place text.old text.new refused.new) }
+    ensures reported { OnOk result (IsReportedWithLine refusal file.now place text.old text.new refused.new) }
     ensures unchanged { OnErr result ((text.new ≡ text.old) × (refused.new ≡ refused.old)) }
 {
     let Refusal {
@@ -140,7 +140,7 @@ pub(crate) fn tell_refusal_of(
     } = refusal;
     let at = place.from + 8 * slot as u64;
     add_line(&mut sentence, holding_line(file, place, at))?;
-    tell(
+    report_as(
         code.name(),
         u32::from(slot),
         sentence.as_bytes(),
@@ -161,19 +161,19 @@ fn line_of_fault<'a>(file: &'a [u8], fault: ObjectFault<'_>) -> Option<HoldingLi
 }
 
 /// Tells a fault of an object file, with the line of C of its slot. It fails only where an allocation fails.
-pub(crate) fn tell_fault(
+pub(crate) fn report_fault(
     alloc: Global,
     file: &[u8],
     fault: ObjectFault<'_>,
     text: &mut [u8],
     refused: &mut Refused,
 ) -> Result<(), AllocError>
-    ensures told { OnOk result (IsFaultTold file.now fault.entry text.old text.new refused.new) }
+    ensures reported { OnOk result (IsFaultReported file.now fault.entry text.old text.new refused.new) }
     ensures unchanged { OnErr result ((text.new ≡ text.old) × (refused.new ≡ refused.old)) }
 {
     let mut line = format!(in alloc; "  {fault}\n")?;
     add_line(&mut line, line_of_fault(file, fault))?;
-    tell(fault.code(), slot_of(fault), line.as_bytes(), text, refused);
+    report_as(fault.code(), slot_of(fault), line.as_bytes(), text, refused);
     Ok(())
 }
 
@@ -210,7 +210,7 @@ fn counts_of(replies: &[Reply]) -> Counts
 }
 
 /// Tells a report.
-pub(crate) fn tell_report<H>(done: &Ended<H>, output: &mut [u64], report: &mut Reported)
+pub(crate) fn write_report<H>(done: &Ended<H>, output: &mut [u64], report: &mut Reported)
     ensures numbers { output.new ≡ copied done.now.output output.old }
     ensures exited { report.new.exited ≡ is_some done.now.exit }
     ensures exit { report.new.exit ≡ unwrap_or done.now.exit 0 }

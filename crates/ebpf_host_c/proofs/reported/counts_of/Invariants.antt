@@ -1,7 +1,7 @@
 use Rattle.std.proofs.Common.{◌≡◌, ◌+◌, ◌≤◌, filter, length, take}
 use Rattle.ebpf_machine.specs.Whole.{is_granted, is_null, is_fetched}
-use Rattle.ebpf_host_c.specs.Told.{is_empty}
-use Rattle.ebpf_host_c.proofs.told.counts_of.Given as goal
+use Rattle.ebpf_host_c.specs.Reported.{is_empty}
+use Rattle.ebpf_host_c.proofs.reported.counts_of.Given as goal
 
 abbrev pub invariant-loop-reply : goal.invariant-loop-reply
 invariant-loop-reply l = record {
