@@ -28,9 +28,9 @@ copied items room = take (length room) items ++ drop (length items) room
 
 -- a code, a slot and a sentence with a zero after it, as far as there is room; the zero is not counted
 pub record IsReported (code : List ℕ) (slot : ℕ) (sentence room text : List ℕ) (filled : Refused) : Type 0 where
-  pub code_is : reported.code ≡ copied code (0 ∷ 0 ∷ 0 ∷ 0 ∷ [])
-  pub slot_is : reported.slot ≡ slot
-  pub length_is : reported.length ≡ length sentence
+  pub code_is : filled.code ≡ copied code (0 ∷ 0 ∷ 0 ∷ 0 ∷ [])
+  pub slot_is : filled.slot ≡ slot
+  pub length_is : filled.length ≡ length sentence
   pub text_is : text ≡ copied (sentence ++ 0 ∷ []) room
 
 -- a refusal
@@ -45,13 +45,13 @@ pub record IsReportWritten (old new : Stocks) (s : Subject) (context : List ℕ)
   pub is : IsReportWithin s context limit report
   pub found : AreFound old s context report
   pub left : AreLeft old new s context report
-  pub exited : reported.exited ≡ is_some report.exit
-  pub exit : reported.exit ≡ unwrap_or report.exit 0
-  pub executed : reported.executed ≡ report.executed
-  pub peak : reported.peak ≡ report.peak
-  pub outputs : reported.outputs ≡ length report.output
+  pub exited : filled.exited ≡ is_some report.exit
+  pub exit : filled.exit ≡ unwrap_or report.exit 0
+  pub executed : filled.executed ≡ report.executed
+  pub peak : filled.peak ≡ report.peak
+  pub outputs : filled.outputs ≡ length report.output
   pub numbers : output ≡ copied report.output room
-  pub granted : reported.granted ≡ length (filter is_granted report.answers)
-  pub refused : reported.refused ≡ length (filter is_null report.answers)
-  pub fetched : reported.fetched ≡ length (filter is_fetched report.answers)
-  pub missed : reported.missed ≡ length (filter is_empty report.answers)
+  pub granted : filled.granted ≡ length (filter is_granted report.answers)
+  pub refused : filled.refused ≡ length (filter is_null report.answers)
+  pub fetched : filled.fetched ≡ length (filter is_fetched report.answers)
+  pub missed : filled.missed ≡ length (filter is_empty report.answers)
