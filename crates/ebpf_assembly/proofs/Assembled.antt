@@ -1,5 +1,6 @@
 -- The listing of a program, assembled, is the program.
-use Rattle.std.proofs.Common.{rules, arith, ◌≡◌, inl, inr, ℕ, ◌+◌, ◌<◌, ◌^◌, List, [], ◌∷◌, ◌++◌, length, refl, sym, ap, ◌∙◌, subst, Bool, true, false, append_assoc, length-append, Option}
+use Rattle.std.proofs.Common.{rules, arith, ◌≡◌, inl, inr, ℕ, ◌+◌, ◌<◌, ◌^◌, List, [], ◌∷◌, ◌++◌, length, refl, sym, ap, ◌∙◌, subst, Bool, true}
+use Rattle.std.proofs.Common.{false, append_assoc, length-append, Option}
 use Rattle.std.specs.Prelude.{codes, decimal, not, ◌&&◌, ◌||◌, ◌==◌, if◌then◌else◌, nat_lt}
 use Rattle.std.specs.List.{list_all, AllByRecursion, slice_split, flat_map}
 use Rattle.std.proofs.lemmas.List.Folds.{list_all-append}

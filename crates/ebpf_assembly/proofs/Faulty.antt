@@ -1,5 +1,6 @@
 -- A text that is refused is of no program.
-use Rattle.std.proofs.Common.{arith, ◌≡◌, ◌≢◌, ◌⊎◌, inl, inr, ℕ, ◌+◌, ◌<◌, ◌≤◌, ◌^◌, List, [], ◌∷◌, ◌++◌, length, refl, sym, ap, ◌∙◌, subst, true, false, append_assoc, length-append, Option}
+use Rattle.std.proofs.Common.{arith, ◌≡◌, ◌≢◌, ◌⊎◌, inl, inr, ℕ, ◌+◌, ◌<◌, ◌≤◌, ◌^◌, List, [], ◌∷◌, ◌++◌, length, refl, sym, ap, ◌∙◌, subst, true}
+use Rattle.std.proofs.Common.{false, append_assoc, length-append, Option}
 use Rattle.std.specs.Prelude.{codes, decimal, Result, Ok, Err, IfOk, IfErr, MatchResult}
 use Rattle.std.specs.List.{flat_map}
 use Rattle.ebpf_insn.specs.declared.insn.Insn.{Insn}

@@ -1,5 +1,7 @@
 -- The labels of a text, line by line, and the lines without them.
-use Rattle.std.proofs.Common.{◌≡◌, ◌≢◌, ℕ, ◌+◌, ◌<◌, ◌≤◌, Bool, true, false, ◌==◌, if◌then◌else◌, List, [], ◌∷◌, ◌++◌, length, get_or, slice_index_or, drop, take, map, Option, Some, None, option_map, Bor, refl, sym, ap, ◌∙◌, append_assoc, append-nil, arith}
+use Rattle.std.proofs.Common.{◌≡◌, ◌≢◌, ℕ, ◌+◌, ◌<◌, ◌≤◌, Bool, true, false, ◌==◌, if◌then◌else◌, List, [], ◌∷◌, ◌++◌, length, get_or}
+use Rattle.std.proofs.Common.{slice_index_or, drop, take, map, Option, Some, None, option_map, Bor, refl, sym, ap, ◌∙◌, append_assoc, append-nil}
+use Rattle.std.proofs.Common.{arith}
 use Rattle.std.specs.Prelude.{codes}
 use Rattle.std.specs.Option.{MatchOption}
 use Rattle.std.specs.List.{take-map}
@@ -8,7 +10,8 @@ use Rattle.ebpf_assembly.specs.Lines.{words}
 use Rattle.std.specs.Str.{bytes_eq}
 use Rattle.ebpf_assembly.specs.declared.label.Label.{Label}
 use Rattle.ebpf_assembly.specs.Labels.{names_of, named_by_label}
-use Rattle.ebpf_assembly.specs.Names.{before_colon, label_of, labels_from, slot_after, slot_of, Named, plain_lines, plain_words, words_text, with_target, target_text, targeted, is_jump}
+use Rattle.ebpf_assembly.specs.Names.{before_colon, label_of, labels_from, slot_after, slot_of, Named, plain_lines, plain_words, words_text}
+use Rattle.ebpf_assembly.specs.Names.{own_words, with_target, target_text, targeted, is_jump}
 
 -- what comes before the colon of a word
 last_colon : (c : ℕ) → (c == 58) ≡ true → c ≡ 58
@@ -94,6 +97,12 @@ pub line_more : (labels : List Named) (before after all : List ℕ) (slot next n
 line_more labels before after all slot next n lines line ws vs inside here same again added stepped h =
     rw (added, stepped, same, again) (append_assoc before (codes "\n" ++ words_text (plain_words labels slot (words line))) _
     ∙ (ap (λ (x : List ℕ). before ++ x) (sym (line_here labels slot n lines line inside here)) ∙ h))
+
+-- a newline and the words that are added are the plain line
+pub line_added : (labels : List Named) (before mid after : List ℕ) (slot : ℕ) (own ws : List (List ℕ)) → mid ≡ before ++ codes "\n" → own ≡ own_words labels slot ws
+    → after ≡ mid ++ words_text (targeted labels slot own) → after ≡ before ++ (codes "\n" ++ words_text (plain_words labels slot ws))
+line_added labels before mid after slot own ws newline is added =
+    rw (added, newline, is) (append_assoc before (codes "\n") (words_text (plain_words labels slot ws)))
 
 pub all_plain : (labels : List Named) (text all : List ℕ) (slot n : ℕ) (lines : List (List ℕ)) → length lines ≤ n
     → text ++ plain_lines labels slot (drop n lines) ≡ all → text ≡ all

@@ -1,5 +1,6 @@
 -- The first operand that isn't what it has to be, operand by operand.
-use Rattle.std.proofs.Common.{◌≡◌, ◌<◌, ◌≤◌, ℕ, ◌+◌, ◌-◌, Bool, true, false, List, [], ◌∷◌, length, get_or, take, drop, Bor, refl, ap, ◌∙◌, subst, inl, inr, arith}
+use Rattle.std.proofs.Common.{◌≡◌, ◌<◌, ◌≤◌, ℕ, ◌+◌, ◌-◌, Bool, true, false, List, [], ◌∷◌, length, get_or, take, drop, Bor, refl, ap, ◌∙◌, subst}
+use Rattle.std.proofs.Common.{inl, inr, arith}
 use Rattle.std.proofs.Math.Seq.{take-length}
 use Rattle.ebpf_assembly.specs.declared.cause.Cause.{Cause}
 use Rattle.ebpf_assembly.specs.declared.cause.Cause.TheVariants.{Other}

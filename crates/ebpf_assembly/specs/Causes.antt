@@ -1,5 +1,6 @@
 -- Why a line is at fault, more exactly than its fault says: the first of its words that no instruction has there.
-use Rattle.std.specs.Prelude.{◌≡◌, ◌≢◌, ◌⊎◌, ◌<◌, ◌^◌, ℕ, ℤ, Bool, false, is_some, ◌+◌, ◌-◌, List, [], ◌∷◌, ◌++◌, length, Option, Some, None, codes, decimal, slice_index_or, cond, FitsSigned}
+use Rattle.std.specs.Prelude.{◌≡◌, ◌≢◌, ◌⊎◌, ◌<◌, ◌^◌, ℕ, ℤ, Bool, false, is_some, ◌+◌, ◌-◌, List, [], ◌∷◌, ◌++◌, length, Option, Some, None}
+use Rattle.std.specs.Prelude.{codes, decimal, slice_index_or, cond, FitsSigned}
 use Rattle.std.specs.Fmt.{signed_decimal}
 use Rattle.std.specs.Int.{w16, w32}
 use Rattle.ebpf_insn.specs.declared.register.Reg.{Reg}

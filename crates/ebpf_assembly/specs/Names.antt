@@ -1,5 +1,6 @@
 -- Names for slots: a text with labels is read as the text in which each jump to a name has the offset that leads to the slot of its label.
-use Rattle.std.specs.Prelude.{ℕ, ◌+◌, ◌-◌, ◌==◌, ◌&&◌, ◌||◌, nat_le, nat_lt, Bool, false, if◌then◌else◌, List, [], ◌∷◌, ◌++◌, take, Option, Some, None, is_some, option_map, codes, decimal}
+use Rattle.std.specs.Prelude.{ℕ, ◌+◌, ◌-◌, ◌==◌, ◌&&◌, ◌||◌, nat_le, nat_lt, Bool, false, if◌then◌else◌, List, [], ◌∷◌, ◌++◌, take, Option, Some}
+use Rattle.std.specs.Prelude.{None, is_some, option_map, codes, decimal}
 use Rattle.std.specs.Str.{bytes_eq}
 use Rattle.std.specs.List.{flat_map}
 use Rattle.ebpf_insn.specs.declared.program.TheConstants.{MAX_SLOTS}

@@ -7,7 +7,8 @@ ghost use Rattle.std.specs.Prelude.{◌≡◌, ◌<◌, ◌^◌, ◌↔◌, ◌+
 ghost use Rattle.ebpf_assembly.specs.Names.{labels_of};
 ghost use Rattle.ebpf_assembly.specs.Labels.{names_of};
 ghost use Rattle.ebpf_assembly.specs.Reading.{texts};
-ghost use Rattle.ebpf_assembly.specs.Causes.{line_of, wanted_by, Fits, IsCause, IsCauseBy, IsMisfitFrom, IsOperandsCause, IsWordCause, IsWordsCause, is_labelled, label_cause, labelled_by, misfit};
+ghost use Rattle.ebpf_assembly.specs.Causes.{line_of, wanted_by, Fits, IsCause, IsCauseBy, IsMisfitFrom, IsOperandsCause, IsWordCause};
+ghost use Rattle.ebpf_assembly.specs.Causes.{IsWordsCause, is_labelled, label_cause, labelled_by, misfit};
 
 use crate::fault::LineFault;
 use crate::kind::{Kind, read_kind};

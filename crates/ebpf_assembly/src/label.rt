@@ -9,7 +9,8 @@ ghost use Rattle.ebpf_assembly.specs.declared.label.TheConstants.{MAX_LABELS};
 ghost use Rattle.ebpf_assembly.specs.Lines.{text_lines};
 ghost use Rattle.ebpf_assembly.specs.Labels.{names_of};
 ghost use Rattle.ebpf_assembly.specs.Reading.{texts};
-ghost use Rattle.ebpf_assembly.specs.Names.{is_letter, is_lettered, before_colon, name_in, unlabelled, slots_of_word, slots_of_words, slot_after, label_of, labels_from, slot_of, is_slot, labels_slot};
+ghost use Rattle.ebpf_assembly.specs.Names.{is_letter, is_lettered, before_colon, name_in, unlabelled, slots_of_word, slots_of_words, slot_after};
+ghost use Rattle.ebpf_assembly.specs.Names.{label_of, labels_from, slot_of, is_slot, labels_slot};
 
 use crate::words::{label, line_words};
 use ebpf_insn::program::MAX_SLOTS;

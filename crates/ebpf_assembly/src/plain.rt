@@ -5,7 +5,8 @@ ghost use Rattle.ebpf_insn.specs.declared.program.TheConstants.{MAX_SLOTS};
 ghost use Rattle.ebpf_assembly.specs.Lines.{text_lines};
 ghost use Rattle.ebpf_assembly.specs.Labels.{names_of};
 ghost use Rattle.ebpf_assembly.specs.Reading.{texts};
-ghost use Rattle.ebpf_assembly.specs.Names.{own_words, begins_with_j, is_jump, distance_text, target_by, words_text, targeted, plain_words, plain_lines, without_first};
+ghost use Rattle.ebpf_assembly.specs.Names.{own_words, begins_with_j, is_jump, distance_text, target_by, words_text, targeted};
+ghost use Rattle.ebpf_assembly.specs.Names.{plain_lines, without_first};
 
 use crate::label::{Label, labels_slot, slot_after, slot_of, unlabelled_words};
 use crate::words::line_words;
@@ -23,7 +24,9 @@ pub(crate) fn plain_lines(
     let mut slot = 0;
     for line in text.split(|c| *c == b'\n') {
         let words = line_words(alloc, line)?;
-        push_line(alloc, &mut plain, labels, slot, &words)?;
+        plain.push(b'\n')?;
+        let own = own_words(labels, slot, &words);
+        push_plain(alloc, &mut plain, labels, slot, own)?;
         slot = slot_after(slot, &words);
     }
     Ok(plain)
@@ -37,21 +40,6 @@ pub(crate) fn without_first(text: &[u8]) -> &[u8]
         [_, rest @ ..] => rest,
         _ => text,
     }
-}
-
-// Adds a newline and the words of a line, without its label and with offsets.
-fn push_line(
-    alloc: Global,
-    text: &mut Vec<u8>,
-    labels: &[Label<'_>],
-    slot: usize,
-    words: &[&[u8]],
-) -> Result<(), AllocError>
-    requires { slot ≤ MAX_SLOTS + 2 }
-    ensures { OnOk result (text.new.items ≡ text.old.items ++ (codes "\n" ++ words_text (plain_words (names_of labels.now) slot (texts words.now)))) }
-{
-    text.push(b'\n')?;
-    push_plain(alloc, text, labels, slot, own_words(labels, slot, words))
 }
 
 // The words without the label of their slot.

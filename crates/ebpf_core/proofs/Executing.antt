@@ -1,5 +1,6 @@
 -- A run that is kept does the instruction at its pc: it is the event of the world that is shown.
-use Rattle.std.proofs.Common.{◌≡◌, ◌≢◌, ◌⊎◌, inl, inr, ℕ, Bool, true, false, cond, List, [], length, get_or, Option, Some, None, Ok, Err, refl, sym, ap, ◌∙◌, subst, length-set}
+use Rattle.std.proofs.Common.{◌≡◌, ◌≢◌, ◌⊎◌, inl, inr, ℕ, Bool, true, false, cond, List, [], length, get_or, Option, Some, None, Ok, Err, refl}
+use Rattle.std.proofs.Common.{sym, ap, ◌∙◌, subst, length-set}
 use Rattle.std.specs.Prelude.{slice_get, slice_set, option_map, IfNone, ◌==◌}
 use Rattle.std.proofs.lemmas.List.Elements.{All-map}
 use Rattle.ebpf_machine.specs.declared.holding.Holding.{Holding}
@@ -8,7 +9,8 @@ use Rattle.ebpf_machine.specs.Events.{Illegal, NoSuchRun, RunEnded, Asking, Unas
 use Rattle.ebpf_machine.specs.Kinds.{known_kinds}
 use Rattle.ebpf_machine.specs.View.{ObjectView, RunView, view_of, view_in, slots_in, effect_of_view}
 use Rattle.ebpf_machine.specs.RunState.{RunState, object_seen, status_of}
-use Rattle.ebpf_machine.specs.Step.{MayAnswer, standing_seen, asking_in, wanted, Served, Idle, Refused, Granted, Empty, Fetched, answer_for, served_from, served_in}
+use Rattle.ebpf_machine.specs.Step.{MayAnswer, standing_seen, asking_in, wanted, Served, Idle, Refused, Granted, Empty, Fetched, answer_for}
+use Rattle.ebpf_machine.specs.Step.{served_from, served_in}
 use Rattle.ebpf_machine.specs.Shelves.{shelf_done, shelved_from}
 use Rattle.ebpf_machine.specs.Advance.{slots_after}
 use Rattle.ebpf_machine.specs.Sound.{AreSized, IsSound}

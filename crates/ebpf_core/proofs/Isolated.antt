@@ -1,5 +1,6 @@
 -- Every legal list of events leaves each run to itself.
-use Rattle.std.proofs.Common.{◌≡◌, ◌≢◌, ◌⊎◌, inl, inr, ℕ, ◌+◌, ◌≤◌, All, List, [], ◌∷◌, ◌++◌, filter, length, map, Option, Some, None, Result, Ok, Err, refl, sym, ap, ◌∙◌, subst, append_assoc, append-nil, take, arith}
+use Rattle.std.proofs.Common.{◌≡◌, ◌≢◌, ◌⊎◌, inl, inr, ℕ, ◌+◌, ◌≤◌, All, List, [], ◌∷◌, ◌++◌, filter, length, map, Option, Some, None, Result, Ok}
+use Rattle.std.proofs.Common.{Err, refl, sym, ap, ◌∙◌, subst, append_assoc, append-nil, take, arith}
 use Rattle.std.specs.Prelude.{slice_get}
 use Rattle.std.proofs.lemmas.Bool.{eq-eqb, ne_eqb}
 use Rattle.std.proofs.lemmas.Grind.{common_steps}
@@ -30,12 +31,13 @@ use Rattle.ebpf_core.specs.Events.{first_world, happened}
 use Rattle.ebpf_core.specs.Shown.{run_seen}
 use Rattle.ebpf_machine.specs.Kinds.{AreKnown}
 use Rattle.ebpf_core.specs.Replay.{and_then, world_after_from}
-use Rattle.ebpf_core.specs.Isolation.{is_to_new, answers_to, answer_in, reply_by, replies_to, IsUntrapped, IsWhereAlone, IsOutcomeOf, IsIsolated, IsSafe, IsAlwaysSafe}
+use Rattle.ebpf_core.specs.Isolation.{is_to_new, answers_to, answer_in, reply_by, replies_to, IsUntrapped, IsWhereAlone, IsOutcomeOf, IsIsolated}
+use Rattle.ebpf_core.specs.Isolation.{IsSafe, IsAlwaysSafe}
 use Rattle.ebpf_core.proofs.LegalAnswers.{told_next}
 use Rattle.ebpf_core.proofs.OtherRuns.{own_run, AreSound, IsEventOf, IsExec, start_next, exec_next, event_next}
 use Rattle.ebpf_machine.proofs.World.Owners.{kind_there, owned_there, shelf_once}
 use Rattle.ebpf_core.proofs.OwnedSlots.{unheld}
-use Rattle.ebpf_core.proofs.Runs.{at_number, same_number, get_last, first_alone}
+use Rattle.ebpf_core.proofs.Runs.{at_number, is_number, get_last, first_alone}
 
 -- what every event keeps: the world fits together, each run is sound, is where the run alone is, and was answered what the events
 -- answered it, which is nothing before it starts
@@ -188,22 +190,13 @@ own_there programs (Exec number answer) w v events k h is own none =
 own_there programs (Grow kind slot) w v events k h is own none = absurd (cc)
 own_there programs (Reap kind slot) w v events k h is own none = absurd (cc)
 
-is_own : (o : Option ℕ) (k : ℕ) → (o ≡ Some k) ⊎ (o ≢ Some k)
-is_own None k = inr (λ e. absurd (cc))
-is_own (Some n) k = by (same_number n k) where
-  by : (n ≡ k) ⊎ (n ≢ k) → (Some n ≡ Some k) ⊎ (Some n ≢ Some k)
-  by (inl same) = inl (ap Some same)
-  by (inr ne) = inr (λ e. ne (some_same e)) where
-    some_same : Some n ≡ Some k → n ≡ k
-    some_same e = cc
-
 kept_by : (programs : List Subject) (e : Event) (w v : World) (events : List Event) → All IsAccepted programs → AreKnown programs
     → IsKept w events → happened programs e w ≡ Ok v → IsKept v (events ++ e ∷ [])
 kept_by programs e w v events all known h is = record {
   owned = next.owned;
   kinds = next.kinds ∙ h.kinds;
-  runs = λ k run there. at_run k run there (is_own (own_run w e) k);
-  unanswered = λ k none. silent k none (is_own (own_run w e) k);
+  runs = λ k run there. at_run k run there (is_number (own_run w e) k);
+  unanswered = λ k none. silent k none (is_number (own_run w e) k);
 }
   where
     next : IsEventOf w v (own_run w e)

@@ -9,7 +9,8 @@ use Rattle.ebpf_machine.specs.declared.report.Reply.{Reply}
 use Rattle.ebpf_machine.specs.declared.report.Reply.TheVariants as reply
 use Rattle.ebpf_machine.specs.Alone.{Replies}
 use Rattle.ebpf_machine.specs.Replies.{replies_of}
-use Rattle.ebpf_machine.specs.Events.{SlotNotHome, SlotOfAnotherKind, AnswerUnasked, AnswerMissing, Asking, Unasked, OfKind, AtShelf, is_asked, is_answer, is_away, is_of_another_kind, answer_fault, asking_of}
+use Rattle.ebpf_machine.specs.Events.{SlotNotHome, SlotOfAnotherKind, AnswerUnasked, AnswerMissing, Asking, Unasked, OfKind, AtShelf, is_asked}
+use Rattle.ebpf_machine.specs.Events.{is_answer, is_away, is_of_another_kind, answer_fault, asking_of}
 use Rattle.ebpf_machine.specs.View as view
 use Rattle.ebpf_machine.specs.View.{RunView, CallResult, view_of, stepped, reply_in}
 use Rattle.ebpf_machine.specs.Step.{result_of, served_in, asking_in, wanted}

@@ -3,9 +3,11 @@ use Rattle.std.proofs.Common.{◌≡◌, ◌≢◌, ℕ, Bool, true, false, cond
 use Rattle.std.specs.Prelude.{slice_get, option_map, nat_lt, ◌&&◌}
 use Rattle.std.proofs.lemmas.Bool.{ltb-true, eqb-true, and_parts}
 use Rattle.ebpf_verify.specs.Subject.{Subject}
-use Rattle.ebpf_machine.specs.World.{World, Running, Owner, Holder, Run, Going, Exited, Trapped, Status, kinds_of, first_run, held_by, is_home, is_in, is_in_ledger, ledger_of}
+use Rattle.ebpf_machine.specs.World.{World, Running, Owner, Holder, Run, Going, Exited, Trapped, Status, kinds_of, first_run, held_by, is_home}
+use Rattle.ebpf_machine.specs.World.{is_in, is_in_ledger, ledger_of}
 use Rattle.ebpf_machine.specs.Kinds.{known_kinds}
-use Rattle.ebpf_machine.specs.Events.{Illegal, SlotInLedger, SlotNotReapable, NoSuchProgramOrKind, WrongContext, answer_fault, asking_of, started, starting, exec_going, exec_by, exec, with_slot_joined, growing, with_slot_left, reaping}
+use Rattle.ebpf_machine.specs.Events.{Illegal, SlotInLedger, SlotNotReapable, NoSuchProgramOrKind, WrongContext, answer_fault, asking_of, started}
+use Rattle.ebpf_machine.specs.Events.{starting, exec_going, exec_by, exec, with_slot_joined, growing, with_slot_left, reaping}
 use Rattle.ebpf_machine.specs.View.{view_of, view_in, slots_in}
 use Rattle.ebpf_machine.specs.Sound.{IsSound, IsOwned}
 use Rattle.ebpf_machine.proofs.World.Owned.{owned_started}
@@ -133,6 +135,12 @@ all_left w after k runs owners same = record { view = by_run (slice_get w.runs k
     alike None = refl
     alike (Some r) = ap Some (same r)
 
+-- and the event of a slot leaves each
+slot_next : (w next after : World) → next ≡ after → next.runs ≡ w.runs → next.owners ≡ w.owners → next.kinds ≡ w.kinds → IsOwned next
+    → ((k : ℕ) (r : Running) → view_of next k r ≡ view_of w k r) → IsEventOf w after None
+slot_next w next after is runs owners kinds owned same =
+    subst (λ (v : World). IsEventOf w v None) is (record { owned = owned; kinds = kinds; left = λ k ne. all_left w next k runs owners (same k) })
+
 -- ---- every event
 
 pub event_next : (programs : List Subject) (e : Event) (w after : World) → AreKnown programs → IsOwned w → w.kinds ≡ known_kinds
@@ -154,15 +162,7 @@ event_next programs (Exec run answer) w after known owned kinds sound is =
     }
 event_next programs (Grow kind slot) w after known owned kinds sound is =
     let grown = grow_next w after kind slot is in
-    subst (λ (v : World). IsEventOf w v None) grown.1 (record {
-      owned = owned_joined w kind slot owned grown.0;
-      kinds = refl;
-      left = λ k ne. all_left w (with_slot_joined kind slot w) k refl refl (λ r. view_joined w k kind slot r owned grown.0);
-    })
+    slot_next w _ after grown.1 refl refl refl (owned_joined w kind slot owned grown.0) (λ k r. view_joined w k kind slot r owned grown.0)
 event_next programs (Reap kind slot) w after known owned kinds sound is =
     let reaped = reap_next w after kind slot is in
-    subst (λ (v : World). IsEventOf w v None) reaped.1 (record {
-      owned = owned_parted w kind slot owned reaped.0;
-      kinds = refl;
-      left = λ k ne. all_left w (with_slot_left kind slot w) k refl refl (λ r. view_parted w k kind slot r owned reaped.0);
-    })
+    slot_next w _ after reaped.1 refl refl refl (owned_parted w kind slot owned reaped.0) (λ k r. view_parted w k kind slot r owned reaped.0)

@@ -1,6 +1,7 @@
 -- What one instruction does to the objects of a run: nothing, or it is granted one, or it frees one, or it exchanges what is on a
 -- shelf.
-use Rattle.std.proofs.Common.{◌≡◌, inl, inr, ℕ, ◌+◌, ◌<◌, Bool, true, false, cond, not, List, [], ◌∷◌, ◌++◌, length, map, filter, count_by, Option, Some, None, Result, Ok, refl, sym, ap, ◌∙◌, arith, append-nil}
+use Rattle.std.proofs.Common.{◌≡◌, inl, inr, ℕ, ◌+◌, ◌<◌, Bool, true, false, cond, not, List, [], ◌∷◌, ◌++◌, length, map, filter, count_by, Option}
+use Rattle.std.proofs.Common.{Some, None, Result, Ok, refl, sym, ap, ◌∙◌, arith, append-nil}
 use Rattle.std.specs.Prelude.{Contains, ◌==◌, nat_le, if◌then◌else◌, IfSome}
 use Rattle.std.specs.List.{find}
 use Rattle.std.proofs.lemmas.Bool.{eqb-true}
@@ -12,7 +13,8 @@ use Rattle.ebpf_machine.specs.Values.{Trap, Frame}
 use Rattle.ebpf_machine.specs.Effect.{Found, Act, Nothing, Write, Ask, Free, Exchange, Effect}
 use Rattle.ebpf_machine.specs.World.{Name, Shelved, Going, name_of}
 use Rattle.ebpf_machine.specs.Events.{Unasked, OfKind, AtShelf}
-use Rattle.ebpf_machine.specs.View.{ObjectView, RunView, found_in, object_at, patched_at, environment_of_view, effect_of_view, without_given, exchanged, acted, stepped}
+use Rattle.ebpf_machine.specs.View.{ObjectView, RunView, found_in, object_at, patched_at, environment_of_view, effect_of_view, without_given}
+use Rattle.ebpf_machine.specs.View.{exchanged, acted, stepped}
 use Rattle.ebpf_machine.specs.Whole as whole
 use Rattle.ebpf_machine.specs.Step as step
 use Rattle.ebpf_machine.specs.Step.{Served, result_of, asking_in, reached, told_by}

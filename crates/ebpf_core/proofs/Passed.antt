@@ -1,5 +1,6 @@
 -- Where each slot is after any instruction of a run that is kept: what passes over a shelf, too.
-use Rattle.std.proofs.Common.{◌≡◌, ◌≢◌, ◌⊎◌, inl, inr, ℕ, zero, suc, Bool, true, false, cond, not, List, ◌++◌, Option, Some, None, refl, sym, ap, ◌∙◌, subst, arith}
+use Rattle.std.proofs.Common.{◌≡◌, ◌≢◌, ◌⊎◌, inl, inr, ℕ, zero, suc, Bool, true, false, cond, not, List, ◌++◌, Option, Some, None, refl, sym, ap}
+use Rattle.std.proofs.Common.{◌∙◌, subst, arith}
 use Rattle.std.specs.Prelude.{slice_get, Contains, ◌==◌, IfSome, IsSome}
 use Rattle.std.specs.Option.{option_and_then}
 use Rattle.std.proofs.lemmas.Bool.{eq-eqb, ne_eqb, not-true, cases_eq}
@@ -20,7 +21,7 @@ use Rattle.ebpf_core.specs.Shown.{WorldState, Shows, ArePlaced, IsPlaced, run_se
 use Rattle.ebpf_core.proofs.Executing.{IsInstruction}
 use Rattle.ebpf_core.proofs.Exchanging.{IsExchange, Stays, Lends, Frees, Swaps, LeavesShelves, PassesShelf, call_of, slot_of, got_by, exchange}
 use Rattle.ebpf_core.proofs.Moving.{stepped_to, moved, run_after, reached_slot, IsMoved, one_a_call, stays_placed, lends_placed, frees_placed}
-use Rattle.ebpf_core.proofs.Runs.{same_number}
+use Rattle.ebpf_core.proofs.Runs.{is_number}
 
 -- ---- a slot, or none
 
@@ -30,15 +31,6 @@ is_it o q is = ap (λ (x : Option ℕ). is_slot x q) is ∙ eq-eqb q q refl
 is_not : (o : Option ℕ) (q : ℕ) → o ≢ Some q → is_slot o q ≡ false
 is_not None q ne = refl
 is_not (Some s) q ne = ne_eqb q s (λ same. ne (ap Some (sym same)))
-
-it_or_not : (o : Option ℕ) (q : ℕ) → (o ≡ Some q) ⊎ (o ≢ Some q)
-it_or_not None q = inr (λ e. absurd (cc))
-it_or_not (Some s) q = by (same_number s q) where
-  by : (s ≡ q) ⊎ (s ≢ q) → (Some s ≡ Some q) ⊎ (Some s ≢ Some q)
-  by (inl same) = inl (ap Some same)
-  by (inr ne) = inr (λ e. ne (some_same e)) where
-    some_same : Some s ≡ Some q → s ≡ q
-    some_same e = cc
 
 not_both : (shelf run at : ℕ) → Some (Shelved shelf) ≡ Some (Held run at) → ⊥
 not_both shelf run at e = cc
@@ -203,7 +195,7 @@ module _ (w : World) (kept : WorldState) (k : ℕ) (answer : Answer) (r t : RunS
 
   swaps_placed : ArePlaced (stepped_to kept k t now after)
   swaps_placed = record {
-    each = λ q. each q (it_or_not (slot_of given) q) (it_or_not (slot_on kept.shelves shelf) q);
+    each = λ q. each q (is_number (slot_of given) q) (is_number (slot_on kept.shelves shelf) q);
     held = λ run x there n among. held_then run x n among (run_after kept k run r t x i.at there);
     shelved = λ other slot is. shelved_then other slot is (cases_eq other shelf);
   }

@@ -4,7 +4,8 @@ use Rattle.std.specs.Prelude.{slice_get, Contains, ◌==◌, ◌&&◌, ◌||◌,
 use Rattle.std.specs.List.{list_any}
 use Rattle.std.proofs.lemmas.Bool.{eqb-true, eq-eqb, false_from_ne_true, and_from, not_from_false}
 use Rattle.ebpf_machine.specs.declared.holding.Holding.{Holding}
-use Rattle.ebpf_machine.specs.World.{Name, World, Running, Owner, Holder, Run, Shelf, held_by, is_by_run, is_home, is_in, is_in_ledger, is_owned, is_shelf, ledger_of, name_of, shelved_at, standing}
+use Rattle.ebpf_machine.specs.World.{Name, World, Running, Owner, Holder, Run, Shelf, held_by, is_by_run, is_home, is_in, is_in_ledger, is_owned}
+use Rattle.ebpf_machine.specs.World.{is_shelf, ledger_of, name_of, shelved_at, standing}
 use Rattle.ebpf_machine.specs.World as world
 use Rattle.ebpf_machine.specs.Sound.{IsOwned}
 use Rattle.ebpf_machine.specs.View.{ObjectView, RunView, call_of, object_in, view_of, view_in}

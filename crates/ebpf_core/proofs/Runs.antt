@@ -1,5 +1,6 @@
 -- The runs of a world, and those that are kept: what is said of one by its number.
-use Rattle.std.proofs.Common.{◌≡◌, ◌≢◌, ⊎_elim, ◌⊎◌, inl, inr, ℕ, zero, suc, true, false, eqb, All, List, [], ◌∷◌, ◌++◌, length, Option, Some, None, refl, sym, ap, ◌∙◌, subst, arith}
+use Rattle.std.proofs.Common.{◌≡◌, ◌≢◌, ⊎_elim, ◌⊎◌, inl, inr, ℕ, zero, suc, true, false, eqb, All, List, [], ◌∷◌, ◌++◌, length, Option, Some}
+use Rattle.std.proofs.Common.{None, refl, sym, ap, ◌∙◌, subst, arith}
 use Rattle.std.specs.Prelude.{slice_get, option_map}
 use Rattle.std.proofs.lemmas.Bool.Decides.{eqb_tells}
 use Rattle.std.proofs.lemmas.Option.{get_or_from_slice_get, slice_get_within}
@@ -50,6 +51,16 @@ get_last (x ∷ xs) y = get_last xs y
 -- two numbers are the same, or not
 pub same_number : (a b : ℕ) → (a ≡ b) ⊎ (a ≢ b)
 same_number a b = ⊎_elim (λ (e : (eqb a b ≡ true) × (a ≡ b)). inl e.1) (λ (e : (eqb a b ≡ false) × (a ≢ b)). inr e.1) (eqb_tells a b)
+
+-- what there may be is this number, or not
+pub is_number : (o : Option ℕ) (k : ℕ) → (o ≡ Some k) ⊎ (o ≢ Some k)
+is_number None k = inr (λ e. absurd (cc))
+is_number (Some n) k = by (same_number n k) where
+  by : (n ≡ k) ⊎ (n ≢ k) → (Some n ≡ Some k) ⊎ (Some n ≢ Some k)
+  by (inl same) = inl (ap Some same)
+  by (inr ne) = inr (λ e. ne (some_same e)) where
+    some_same : Some n ≡ Some k → n ≡ k
+    some_same e = cc
 
 -- ---- a run that is kept
 

@@ -1,6 +1,7 @@
 -- A slot joins a ledger or leaves it: the world that is kept then shows the one after the event, and what always holds of a world
 -- holds of it.
-use Rattle.std.proofs.Common.{◌≡◌, ◌≢◌, ◌⊎◌, inl, inr, ℕ, zero, suc, ◌<◌, ◌≤◌, Bool, true, false, cond, not, List, [], ◌∷◌, length, get_or, set, Option, Some, None, Result, Ok, Err, refl, sym, ap, ◌∙◌, subst, arith}
+use Rattle.std.proofs.Common.{◌≡◌, ◌≢◌, ◌⊎◌, inl, inr, ℕ, zero, suc, ◌<◌, ◌≤◌, Bool, true, false, cond, not, List, [], ◌∷◌, length, get_or, set}
+use Rattle.std.proofs.Common.{Option, Some, None, Result, Ok, Err, refl, sym, ap, ◌∙◌, subst, arith}
 use Rattle.std.specs.Prelude.{Contains, nat_lt, option_map, slice_get, slice_index_or, slice_set, ◌==◌, ◌&&◌, if◌then◌else◌}
 use Rattle.std.specs.List.{list_any}
 use Rattle.std.specs.Option.{is_some}
@@ -9,7 +10,8 @@ use Rattle.std.proofs.lemmas.Bool.{cases_eq, eqb-true, eq-eqb, ne_eqb, lt-ltb, o
 use Rattle.std.proofs.lemmas.Bool.Decides.{nat_tests}
 use Rattle.ebpf_machine.specs.World.{Name, World, is_in, is_in_ledger, is_owned, is_home, ledger_of, image_at, name_of}
 use Rattle.ebpf_machine.specs.Kinds.{known_kinds}
-use Rattle.ebpf_machine.specs.Events.{SlotInLedger, SlotNotReapable, NoSuchProgramOrKind, with_slot, with_slot_joined, growing, without_slot, with_slot_left, reaping}
+use Rattle.ebpf_machine.specs.Events.{SlotInLedger, SlotNotReapable, NoSuchProgramOrKind, with_slot, with_slot_joined, growing, without_slot}
+use Rattle.ebpf_machine.specs.Events.{with_slot_left, reaping}
 use Rattle.ebpf_machine.specs.RunState.{RunState}
 use Rattle.ebpf_machine.proofs.World.LedgerChanges.{any-set}
 use Rattle.ebpf_machine.proofs.World.KeptShelves.{shelved_joined}

@@ -6,7 +6,8 @@ use Rattle.ebpf_machine.specs.Events as events
 use Rattle.ebpf_core.specs.declared.event.Event.{Event}
 use Rattle.ebpf_core.specs.declared.event.Event.TheVariants.{Start, Exec, Grow, Reap}
 use Rattle.ebpf_core.specs.declared.fault.ApplyCode.{ApplyCode}
-use Rattle.ebpf_core.specs.declared.fault.ApplyCode.TheVariants.{NoSuchRun, RunEnded, SlotNotHome, SlotOfAnotherKind, AnswerUnasked, AnswerMissing, SlotInLedger, SlotNotReapable, NoSuchProgramOrKind, WrongContext}
+use Rattle.ebpf_core.specs.declared.fault.ApplyCode.TheVariants.{NoSuchRun, RunEnded, SlotNotHome, SlotOfAnotherKind, AnswerUnasked, AnswerMissing}
+use Rattle.ebpf_core.specs.declared.fault.ApplyCode.TheVariants.{SlotInLedger, SlotNotReapable, NoSuchProgramOrKind, WrongContext}
 use Rattle.ebpf_core.specs.declared.fault.ApplyFault.{ApplyFault}
 use Rattle.ebpf_core.specs.declared.fault.ApplyFault.TheVariants.{Bad, NoMemory}
 

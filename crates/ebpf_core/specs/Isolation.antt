@@ -1,13 +1,15 @@
 -- The main theorem, for every legal list of events. No run traps. Each computes what it computes alone with the same
 -- answers, and executes at most as many instructions as its program has. None holds more objects than it declared, or
 -- exits holding one. No object is held twice, no shelf has two, and none is missing from the ledger of its kind.
-use Rattle.std.specs.Prelude.{◌≡◌, ◌≤◌, ℕ, ◌==◌, if◌then◌else◌, Bool, false, true, List, [], ◌∷◌, length, map, filter, take, count_by, Contains, Some, Ok, slice_get}
+use Rattle.std.specs.Prelude.{◌≡◌, ◌≤◌, ℕ, ◌==◌, if◌then◌else◌, Bool, false, true, List, [], ◌∷◌, length, map, filter, take, count_by, Contains}
+use Rattle.std.specs.Prelude.{Some, Ok, slice_get}
 use Rattle.std.specs.List.{flat_map}
 use Rattle.ebpf_insn.specs.Program.{instructions}
 use Rattle.ebpf_verify.specs.Subject.{Subject}
 use Rattle.ebpf_machine.specs.declared.report.Reply.{Reply}
 use Rattle.ebpf_machine.specs.declared.report.Reply.TheVariants as reply
-use Rattle.ebpf_machine.specs.World.{World, Running, Owner, IsOfKind, Going, Exited, Trapped, Status, is_in, is_home, is_shelf, ledger_of, kind_in, image_at, held_by, holds_of}
+use Rattle.ebpf_machine.specs.World.{World, Running, Owner, IsOfKind, Going, Exited, Trapped, Status, is_in, is_home, is_shelf, ledger_of, kind_in}
+use Rattle.ebpf_machine.specs.World.{image_at, held_by, holds_of}
 use Rattle.ebpf_machine.specs.Alone.{Replies, Outcome, replies_from, alone_after, outcome_alone}
 use Rattle.ebpf_machine.specs.declared.answer.Answer.{Answer}
 use Rattle.ebpf_machine.specs.declared.answer.Answer.TheVariants.{Absent, Null, Slot}

@@ -13,7 +13,8 @@ use Rattle.ebpf_machine.specs.Shelves.{shelf_done, shelved_from}
 use Rattle.ebpf_machine.specs.declared.answer.Answer.{Answer}
 use Rattle.ebpf_machine.specs.declared.answer.Answer.TheVariants.{Absent, Null, Slot}
 use Rattle.ebpf_core.specs.declared.fault.ApplyCode.{ApplyCode}
-use Rattle.ebpf_core.specs.declared.fault.ApplyCode.TheVariants.{SlotNotHome, SlotOfAnotherKind, AnswerUnasked, AnswerMissing, NoSuchProgramOrKind, WrongContext}
+use Rattle.ebpf_core.specs.declared.fault.ApplyCode.TheVariants.{SlotNotHome, SlotOfAnotherKind, AnswerUnasked, AnswerMissing, NoSuchProgramOrKind}
+use Rattle.ebpf_core.specs.declared.fault.ApplyCode.TheVariants.{WrongContext}
 use Rattle.ebpf_shelves.specs.declared.object.Object.{Object}
 use Rattle.ebpf_shelves.specs.Shelves.{as_shelved, standing_on}
 use Rattle.ebpf_core.specs.declared.place.Place.{Place}

@@ -5,6 +5,7 @@ ghost use Rattle.ebpf_state.specs.Ascending.{IsAscending};
 ghost use Rattle.ebpf_machine.specs.World.{is_in};
 ghost use Rattle.ebpf_machine.specs.Events.{with_slot, without_slot};
 
+use ebpf_state::kinds::KINDS;
 use std::alloc::{AllocError, Global};
 use std::marker::Model;
 
@@ -67,7 +68,7 @@ impl Ledger {
 }
 
 /// A slot joins the ledger of a kind.
-pub(crate) fn join(ledgers: &mut [Ledger; 3], kind: usize, slot: u32) -> Result<(), AllocError>
+pub(crate) fn join(ledgers: &mut [Ledger; KINDS], kind: usize, slot: u32) -> Result<(), AllocError>
     requires kind { kind < length ledgers.old }
     requires new { is_in slot (slice_index_or ledgers.old kind []) ≡ false }
     ensures joined { OnOk result (ledgers.new ≡ slice_set ledgers.old kind (with_slot slot (slice_index_or ledgers.old kind []))) }
@@ -77,7 +78,7 @@ pub(crate) fn join(ledgers: &mut [Ledger; 3], kind: usize, slot: u32) -> Result<
 }
 
 /// A slot leaves the ledger of a kind.
-pub(crate) fn leave(ledgers: &mut [Ledger; 3], kind: usize, slot: u32)
+pub(crate) fn leave(ledgers: &mut [Ledger; KINDS], kind: usize, slot: u32)
     requires { kind < length ledgers.old }
     ensures { ledgers.new ≡ slice_set ledgers.old kind (without_slot slot (slice_index_or ledgers.old kind [])) }
 {

@@ -32,6 +32,7 @@ use ebpf_machine::context::Context;
 use ebpf_machine::run::{Run, StartFault};
 use ebpf_shelves::object::Object;
 use ebpf_shelves::shelves::Shelves;
+use ebpf_state::kinds::KINDS;
 use ebpf_verify::verified::Verified;
 use std::alloc::{AllocError, Global};
 use std::collections::BTreeMap;
@@ -53,7 +54,7 @@ pub struct World<'v> {
     alloc: Global,
     programs: &'v [Verified],
     runs: Vec<Run<'v, Object>>,
-    ledgers: [Ledger; 3],
+    ledgers: [Ledger; KINDS],
     places: BTreeMap<u32, Place>,
     shelves: Shelves,
 }

@@ -1,5 +1,6 @@
 -- A run that is counted instruction by instruction: its counts are those of the run alone, whatever replies come after its own.
-use Rattle.std.proofs.Common.{◌≡◌, ℕ, zero, suc, ◌+◌, ◌<◌, ◌==◌, get_or, true, false, ◌&&◌, not, cond, Bool, List, [], length, Option, Some, None, option_map, refl, sym, ap, ◌∙◌, subst, append_assoc, arith, add-zero, add-one}
+use Rattle.std.proofs.Common.{◌≡◌, ℕ, zero, suc, ◌+◌, ◌<◌, ◌==◌, get_or, true, false, ◌&&◌, not, cond, Bool, List, [], length, Option, Some, None}
+use Rattle.std.proofs.Common.{option_map, refl, sym, ap, ◌∙◌, subst, append_assoc, arith, add-zero, add-one}
 use Rattle.std.specs.Prelude.{IfNone, is_none}
 use Rattle.std.proofs.lemmas.Bool.Decides.{nat_tests}
 use Rattle.ebpf_verify.specs.Subject.{Subject}
@@ -125,6 +126,12 @@ one_more : (is : ℕ → Bool) (n : ℕ) → times is (n + 1) ≡ times is n + c
 unfolding times
 one_more is n = rw add-one refl
 
+-- the count of a slot with one number more, which was counted before by the same test
+count_more : (is before : ℕ → Bool) (n m : ℕ) (b : Bool) (old was now : ℕ) → is n ≡ b → times before n ≡ times is n → m ≡ n + 1
+    → was ≡ old + times before n → now ≡ was + cond b 1 0 → now ≡ old + times is m
+count_more is before n m b old was now here same next earlier more =
+    let one = ap (λ (t : Bool). cond {A = ℕ} t 1 0) here in let counted = ap (times is) next ∙ one_more is n in omega arith
+
 -- an instruction is counted: the slot at which a run was before it, and the one after it
 record IsOneMore (at next : ℕ) (executed_old taken_old executed_new taken_new : ℕ → ℕ) : Type 0 where
   executed : (slot : ℕ) → executed_new slot ≡ executed_old slot + cond (at == slot) 1 0
@@ -137,23 +144,15 @@ one_counted : {S H : Type 0} (o : Store S H) (first old new : S) (subject : Subj
 one_counted {S} {H} o first old new subject context r t executed_old taken_old executed_was taken_was executed_is taken_is sizes kinds h turn noted = record {
   under = under;
   executed = λ more slot.
-      let same : is_at subject context (all more) slot r.executed ≡ (r.pc == slot) = ap (λ (o : Option ℕ). is_slot o slot) (at_first more) in
-      let one = ap (λ (b : Bool). cond {A = ℕ} b 1 0) same in
-      let earlier = h.executed (on more) slot in
-      let again = ap (λ (rs : Replies). times (is_at subject context rs slot) r.executed) (is_all more) in
-      let more_one = noted.executed slot in
-      let counted = ap (times (is_at subject context (all more) slot)) turn.counted ∙ one_more (is_at subject context (all more) slot) r.executed in
-      omega (arith, one, earlier, again, more_one, counted);
+      count_more (is_at subject context (all more) slot) (is_at subject context (more_than (replies_of (seen_in o old r)) (on more)) slot) r.executed t.executed (r.pc == slot) _ _ _
+      (ap (λ (o : Option ℕ). is_slot o slot) (at_first more)) (ap (λ (rs : Replies). times (is_at subject context rs slot) r.executed) (is_all more))
+      turn.counted (h.executed (on more) slot) (noted.executed slot);
   taken = λ more slot.
       let same : leaves subject context (all more) slot r.executed ≡ ((r.pc == slot) && not (t.pc == slot + 1)) =
       ap (λ (o : Option ℕ). is_slot o slot && not (is_at subject context (all more) (slot + 1) (r.executed + 1))) (at_first more)
       ∙ ap (λ (o : Option ℕ). (r.pc == slot) && not (is_slot o (slot + 1))) (at_last more) in
-      let one = ap (λ (b : Bool). cond {A = ℕ} b 1 0) same in
-      let earlier = h.taken (on more) slot in
-      let again = ap (λ (rs : Replies). times (leaves subject context rs slot) r.executed) (is_all more) in
-      let more_one = noted.taken slot in
-      let counted = ap (times (leaves subject context (all more) slot)) turn.counted ∙ one_more (leaves subject context (all more) slot) r.executed in
-      omega (arith, one, earlier, again, more_one, counted);
+      count_more (leaves subject context (all more) slot) (leaves subject context (more_than (replies_of (seen_in o old r)) (on more)) slot) r.executed t.executed _ _ _ _
+      same (ap (λ (rs : Replies). times (leaves subject context rs slot) r.executed) (is_all more)) turn.counted (h.taken (on more) slot) (noted.taken slot);
 }
   where
     under : IsUnderWay o first new subject context t

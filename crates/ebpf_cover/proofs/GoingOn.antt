@@ -1,5 +1,6 @@
 -- An instruction that leads to the next slot and nowhere else leads a run there.
-use Rattle.std.proofs.Common.{◌≡◌, refl, ℕ, ◌+◌, pos, ◌++◌, [], ◌∷◌, nat_le, cond, Bool, true, false, length, Option, Some, None, sym, ap, ◌∙◌, inl, inr, ◌⊎◌, eqb-true}
+use Rattle.std.proofs.Common.{◌≡◌, refl, ℕ, ◌+◌, pos, ◌++◌, [], ◌∷◌, nat_le, cond, Bool, true, false, length, Option, Some, None, sym, ap, ◌∙◌}
+use Rattle.std.proofs.Common.{inl, inr, ◌⊎◌, eqb-true}
 use Rattle.ebpf_insn.specs.declared.insn.Insn.{Insn}
 use Rattle.ebpf_flow.specs.Edges.{edges_of, fall_of, jump_of}
 use Rattle.ebpf_machine.specs.Values.{Frame, TooManyObjects}

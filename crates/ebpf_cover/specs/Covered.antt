@@ -1,5 +1,6 @@
 -- Which instructions runs executed, and where they went on elsewhere than at the next slot.
-use Rattle.std.specs.Prelude.{◌≡◌, ℕ, zero, suc, ◌+◌, ◌==◌, ◌&&◌, not, cond, Bool, false, List, [], ◌∷◌, length, get_or, slice_get, Option, Some, None, option_map}
+use Rattle.std.specs.Prelude.{◌≡◌, ℕ, zero, suc, ◌+◌, ◌==◌, ◌&&◌, not, cond, Bool, false, List, [], ◌∷◌, length, get_or, slice_get, Option, Some}
+use Rattle.std.specs.Prelude.{None, option_map}
 use Rattle.ebpf_insn.specs.declared.insn.Insn.{Insn}
 use Rattle.ebpf_verify.specs.Subject.{Subject}
 use Rattle.ebpf_machine.specs.declared.report.Report.{Report}

@@ -9,7 +9,8 @@ use base.Fraction.{full_share}
 use base.Logic.{ent, sep, wand, guard, guard_i, never, fst∗, via, apply∗}
 use base.Fml.{Lft, Fml, feq, flt, fsep, fbor}
 use types.Logic.{Logic, sem, lfts}
-use types.Kit.{Item, Goal, Seq, ‵, raw, ◌⊛◌, given, later, ◌$◌, !, qed, move, drop, split, fsplit, use1, use2, await, learn, feq_l, flt_l, flt_i, updating, now as at_once, done}
+use types.Kit.{Item, Goal, Seq, ‵, raw, ◌⊛◌, given, later, ◌$◌, !, qed, move, drop, split, fsplit, use1, use2, await, learn, feq_l, flt_l, flt_i}
+use types.Kit.{updating, now as at_once, done}
 use contract.Monad.{fact_use}
 use denote.RattleType.{RattleType, RowLaws}
 use denote.Memory.{lone, shared_of}

@@ -1,5 +1,6 @@
 -- The instruction of a slot that has no fault is encoded by the slot.
-use Rattle.std.proofs.Common.{◌≡◌, ℕ, ◌+◌, ◌*◌, ◌/◌, ◌%◌, ◌<◌, ◌^◌, Bool, true, false, not, eqb, nat_le, if◌then◌else◌, ◌&&◌, ◌||◌, [], ◌∷◌, take, Option, Some, None, w16, w32, FitsSigned, refl, sym, ap, ◌∙◌, arith}
+use Rattle.std.proofs.Common.{◌≡◌, ℕ, ◌+◌, ◌*◌, ◌/◌, ◌%◌, ◌<◌, ◌^◌, Bool, true, false, not, eqb, nat_le, if◌then◌else◌, ◌&&◌, ◌||◌, [], ◌∷◌, take}
+use Rattle.std.proofs.Common.{Option, Some, None, w16, w32, FitsSigned, refl, sym, ap, ◌∙◌, arith}
 use Rattle.std.proofs.lemmas.Bool.{eqb-true}
 use Rattle.std.proofs.lemmas.Bool.Decides.{nat_tests}
 use Rattle.std.proofs.lemmas.Int.{ints, of_z-to_z}
@@ -22,7 +23,8 @@ use Rattle.ebpf_insn.specs.Registers.{number_of}
 use Rattle.ebpf_insn.specs.Slot.{listed}
 use Rattle.ebpf_insn.specs.Program.{slots_in}
 use Rattle.ebpf_insn.specs.Opcodes.{alu_class, operand_bit, alu_code, jump_class, condition_code, size_code, store_class, opcode_of, form_of}
-use Rattle.ebpf_insn.specs.Fields.{takes_register, offset_chooses, uses, leaves_unused_zero, has_defined_fields, is_move_of, is_blank, lacks_second, has_bad_second}
+use Rattle.ebpf_insn.specs.Fields.{takes_register, offset_chooses, uses, leaves_unused_zero, has_defined_fields, is_move_of, is_blank}
+use Rattle.ebpf_insn.specs.Fields.{lacks_second, has_bad_second}
 use Rattle.ebpf_insn.specs.Encoding.{unsigned_of, operand_of, source_register, source_imm, sign_offset, slot_with, second_half, slots_of, IsSource, IsDefined}
 use Rattle.ebpf_insn.specs.Decoded.{source_at, signed_by, alu_at, insn_at_slot}
 use Rattle.ebpf_insn.proofs.SlotBytes.{FitsSlot, same_slot}
@@ -151,8 +153,13 @@ operated width o operand s second dst src fine other =
     let from = source_is operand s src fine.fits fine.from zero.src zero.imm in
     let sign = signed_is o width operand s (is_form s.opcode (form.Alu width o operand) fine.here) other zero.offset fine.defined in
     let opcode : alu_class width + 8 * operand_bit (operand_of (source_at operand s src)) + 16 * alu_code (signed_by s.offset o) ≡ s.opcode =
-    rw (from.kind, sign.code) (opcode_is s.opcode (form.Alu width o operand) fine.here) in
-    (from.fits, ap (λ (t : Slot). t ∷ []) (same_slot (slot_with (form.Alu width (signed_by s.offset o) (operand_of (source_at operand s src))) (number_of dst) (source_register (source_at operand s src)) (sign_offset (signed_by s.offset o)) (source_imm (source_at operand s src))) s opcode fine.to from.register sign.sign from.imm))
+    rw (from.kind, sign.code) (opcode_is s.opcode (form.Alu width o operand) fine.here) in (
+      from.fits,
+      ap (λ (t : Slot). t ∷ []) (same_slot (slot_with
+          (form.Alu width (signed_by s.offset o) (operand_of (source_at operand s src))) (number_of dst)
+          (source_register (source_at operand s src)) (sign_offset (signed_by s.offset o))
+          (source_imm (source_at operand s src))) s opcode fine.to from.register sign.sign from.imm),
+    )
 
 -- a move between registers
 moved : (width : Width) (s : Slot) (second : Option Slot) (dst src : Reg) (b : Bool)

@@ -1,5 +1,6 @@
 -- The opcode of each form means that form, and every other number means none.
-use Rattle.std.proofs.Common.{rules, ◌≡◌, ◌⊎◌, if◌then◌else◌, ℕ, zero, suc, ◌/◌, ◌%◌, ◌<◌, Bool, true, false, cond, not, eqb, nat_lt, ◌&&◌, ◌||◌, ◌==◌, List, [], ◌∷◌, Option, Some, None, is_none, refl, sym, ap, ◌∙◌, arith, inl, inr}
+use Rattle.std.proofs.Common.{rules, ◌≡◌, ◌⊎◌, if◌then◌else◌, ℕ, zero, suc, ◌/◌, ◌%◌, ◌<◌, Bool, true, false, cond, not, eqb, nat_lt, ◌&&◌, ◌||◌}
+use Rattle.std.proofs.Common.{◌==◌, List, [], ◌∷◌, Option, Some, None, is_none, refl, sym, ap, ◌∙◌, arith, inl, inr}
 use Rattle.std.proofs.lemmas.Bool.{eqb-true, ne_eqb, and_parts, cases_lt}
 use Rattle.std.proofs.lemmas.Bool.Decides.{nat_tests}
 use Rattle.std.proofs.lemmas.Option.{same_Some, none-some}
@@ -18,7 +19,8 @@ use Rattle.ebpf_insn.specs.declared.opcode.Operand.TheVariants.{Immediate, Regis
 use Rattle.ebpf_insn.specs.declared.opcode.Form.{Form}
 use Rattle.ebpf_insn.specs.declared.opcode.Form.TheVariants as form
 use Rattle.ebpf_insn.specs.Encoding.{unsigned_of, has_load}
-use Rattle.ebpf_insn.specs.Opcodes.{store_class, alu_class, jump_class, alu_code, condition_code, opcode_of, is_among, alu_ops, conditions, forms, with_code, form_of, alu_op_of, condition_of}
+use Rattle.ebpf_insn.specs.Opcodes.{store_class, alu_class, jump_class, alu_code, condition_code, opcode_of, is_among, alu_ops, conditions, forms}
+use Rattle.ebpf_insn.specs.Opcodes.{with_code, form_of, alu_op_of, condition_of}
 
 -- ---- the first of a list that has a code
 
@@ -67,10 +69,58 @@ Again f = form_of (opcode_of f) ≡ Some f
 
 pub branch_again : (width : Width) (operand : Operand) (c : Cond) → Again (form.Branch width c operand)
 unfolding form_of
-branch_again W32 Immediate c = elim c as (λ k. Again (form.Branch W32 k Immediate)) [ condition.Eq ↦ refl | condition.Ne ↦ refl | condition.Gt ↦ refl | condition.Ge ↦ refl | condition.Lt ↦ refl | condition.Le ↦ refl | condition.Set ↦ refl | condition.SGt ↦ refl | condition.SGe ↦ refl | condition.SLt ↦ refl | condition.SLe ↦ refl ]
-branch_again W32 Register c = elim c as (λ k. Again (form.Branch W32 k Register)) [ condition.Eq ↦ refl | condition.Ne ↦ refl | condition.Gt ↦ refl | condition.Ge ↦ refl | condition.Lt ↦ refl | condition.Le ↦ refl | condition.Set ↦ refl | condition.SGt ↦ refl | condition.SGe ↦ refl | condition.SLt ↦ refl | condition.SLe ↦ refl ]
-branch_again W64 Immediate c = elim c as (λ k. Again (form.Branch W64 k Immediate)) [ condition.Eq ↦ refl | condition.Ne ↦ refl | condition.Gt ↦ refl | condition.Ge ↦ refl | condition.Lt ↦ refl | condition.Le ↦ refl | condition.Set ↦ refl | condition.SGt ↦ refl | condition.SGe ↦ refl | condition.SLt ↦ refl | condition.SLe ↦ refl ]
-branch_again W64 Register c = elim c as (λ k. Again (form.Branch W64 k Register)) [ condition.Eq ↦ refl | condition.Ne ↦ refl | condition.Gt ↦ refl | condition.Ge ↦ refl | condition.Lt ↦ refl | condition.Le ↦ refl | condition.Set ↦ refl | condition.SGt ↦ refl | condition.SGe ↦ refl | condition.SLt ↦ refl | condition.SLe ↦ refl ]
+branch_again W32 Immediate c = elim c as (λ k. Again (form.Branch W32 k Immediate)) [
+  | condition.Eq ↦ refl
+  | condition.Ne ↦ refl
+  | condition.Gt ↦ refl
+  | condition.Ge ↦ refl
+  | condition.Lt ↦ refl
+  | condition.Le ↦ refl
+  | condition.Set ↦ refl
+  | condition.SGt ↦ refl
+  | condition.SGe ↦ refl
+  | condition.SLt ↦ refl
+  | condition.SLe ↦ refl
+]
+branch_again W32 Register c = elim c as (λ k. Again (form.Branch W32 k Register)) [
+  | condition.Eq ↦ refl
+  | condition.Ne ↦ refl
+  | condition.Gt ↦ refl
+  | condition.Ge ↦ refl
+  | condition.Lt ↦ refl
+  | condition.Le ↦ refl
+  | condition.Set ↦ refl
+  | condition.SGt ↦ refl
+  | condition.SGe ↦ refl
+  | condition.SLt ↦ refl
+  | condition.SLe ↦ refl
+]
+branch_again W64 Immediate c = elim c as (λ k. Again (form.Branch W64 k Immediate)) [
+  | condition.Eq ↦ refl
+  | condition.Ne ↦ refl
+  | condition.Gt ↦ refl
+  | condition.Ge ↦ refl
+  | condition.Lt ↦ refl
+  | condition.Le ↦ refl
+  | condition.Set ↦ refl
+  | condition.SGt ↦ refl
+  | condition.SGe ↦ refl
+  | condition.SLt ↦ refl
+  | condition.SLe ↦ refl
+]
+branch_again W64 Register c = elim c as (λ k. Again (form.Branch W64 k Register)) [
+  | condition.Eq ↦ refl
+  | condition.Ne ↦ refl
+  | condition.Gt ↦ refl
+  | condition.Ge ↦ refl
+  | condition.Lt ↦ refl
+  | condition.Le ↦ refl
+  | condition.Set ↦ refl
+  | condition.SGt ↦ refl
+  | condition.SGe ↦ refl
+  | condition.SLt ↦ refl
+  | condition.SLe ↦ refl
+]
 
 load_again : (size : Size) (signed : Bool) → has_load size signed ≡ true → Again (form.Load size signed)
 unfolding form_of

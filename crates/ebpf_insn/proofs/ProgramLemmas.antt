@@ -59,4 +59,6 @@ instructions_next (Some i ∷ p) (suc k) lt = ap (λ (is : List Insn). i ∷ is)
 pub bytes_next : (p : List (Option Insn)) (k : ℕ) (o : Option Insn) → k < length p → insn_at p k ≡ o
     → flat_map encoding (instructions (take (k + 1) p)) ≡ flat_map encoding (instructions (take k p)) ++ flat_map encoding (listed_insn o)
 bytes_next p k o lt here =
-    ap (λ (n : ℕ). flat_map encoding (instructions (take n p))) (add-one k) ∙ ap (flat_map encoding) (instructions_next p k lt) ∙ flat_map-append encoding (instructions (take k p)) (listed_insn (insn_at p k)) ∙ ap (λ (x : Option Insn). flat_map encoding (instructions (take k p)) ++ flat_map encoding (listed_insn x)) here
+    ap (λ (n : ℕ). flat_map encoding (instructions (take n p))) (add-one k) ∙ ap (flat_map encoding) (instructions_next p k lt)
+    ∙ flat_map-append encoding (instructions (take k p)) (listed_insn (insn_at p k)) ∙ ap
+    (λ (x : Option Insn). flat_map encoding (instructions (take k p)) ++ flat_map encoding (listed_insn x)) here

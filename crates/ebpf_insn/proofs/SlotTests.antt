@@ -5,7 +5,8 @@ use Rattle.ebpf_insn.specs.declared.register.Reg.{Reg}
 use Rattle.ebpf_insn.specs.declared.insn.Insn.{Insn}
 use Rattle.ebpf_insn.specs.declared.opcode.Form.{Form}
 use Rattle.ebpf_insn.specs.declared.opcode.Form.TheVariants as form
-use Rattle.ebpf_insn.specs.declared.fault.DecodeCode.TheVariants.{UnknownOpcode, UnknownRegister, UnusedFieldSet, MissingSecondSlot, BadSecondSlot, UndefinedField, UnsupportedForm}
+use Rattle.ebpf_insn.specs.declared.fault.DecodeCode.TheVariants.{UnknownOpcode, UnknownRegister, UnusedFieldSet, MissingSecondSlot, BadSecondSlot}
+use Rattle.ebpf_insn.specs.declared.fault.DecodeCode.TheVariants.{UndefinedField, UnsupportedForm}
 use Rattle.ebpf_insn.specs.Registers.{number_of, register_of}
 use Rattle.ebpf_insn.specs.Opcodes.{form_of, is_left_out}
 use Rattle.ebpf_insn.specs.Fields.{has_left_out_source, leaves_unused_zero, lacks_second, has_bad_second, has_defined_fields}

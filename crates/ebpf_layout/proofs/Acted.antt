@@ -11,7 +11,8 @@ use Rattle.ebpf_machine.specs.Bytes.{patched}
 use Rattle.ebpf_machine.specs.Values.{Frame, TooManyObjects}
 use Rattle.ebpf_machine.specs.Effect.{Act, Nothing, Write, Ask, Free, Exchange}
 use Rattle.ebpf_machine.specs.Renaming.{frame_renamed, value_renamed}
-use Rattle.ebpf_machine.specs.View.{ObjectView, RunView, CallResult, Null, Granted, Empty, Shelved, trapped, replied, new_object, shelved_object, answered, without_given, exchanged, patched_at, acted}
+use Rattle.ebpf_machine.specs.View.{ObjectView, RunView, CallResult, Null, Granted, Empty, Shelved, trapped, replied, new_object, shelved_object}
+use Rattle.ebpf_machine.specs.View.{answered, without_given, exchanged, patched_at, acted}
 use Rattle.ebpf_machine.proofs.World.Telling.{act_told}
 use Rattle.ebpf_machine.proofs.World.Projection.{with_value-told}
 use Rattle.ebpf_layout.proofs.Renamed.{AreApart, placed, object_placed, laid_view, same_names}

@@ -22,7 +22,11 @@ use Rattle.ebpf_machine.specs.declared.value.Base.TheVariants.{Stack, Context, O
 use Rattle.ebpf_machine.specs.declared.value.Cell.{Cell}
 use Rattle.ebpf_machine.specs.Values.{Trap, BadCall, FramePointerWritten, Leak, Frame, read, source_value}
 use Rattle.ebpf_machine.specs.Cells.{place_in, stored_at}
-use Rattle.ebpf_machine.specs.Effect.{Found, Environment, Act, Nothing, Ask, Free, Exchange, Effect, Goes, Ends, Traps, effect, effect_to, with_value, written, is_taken, rewritten, written_at, writes_object, effect_of_store_through, effect_of_store, without_arguments, with_zero, effect_of_new, effect_of_freeing, effect_of_free, effect_of_emit, is_shelf_number, number_in, effect_of_giving, effect_of_swapping, effect_of_swap, effect_of_call, effect_of_jump, effect_of_branch, effect_of_exit, result_number}
+use Rattle.ebpf_machine.specs.Effect.{Found, Environment, Act, Nothing, Ask, Free, Exchange, Effect, Goes, Ends, Traps, effect, effect_to}
+use Rattle.ebpf_machine.specs.Effect.{with_value, written, is_taken, rewritten, written_at, writes_object, effect_of_store_through}
+use Rattle.ebpf_machine.specs.Effect.{effect_of_store, without_arguments, with_zero, effect_of_new, effect_of_freeing, effect_of_free}
+use Rattle.ebpf_machine.specs.Effect.{effect_of_emit, is_shelf_number, number_in, effect_of_giving, effect_of_swapping, effect_of_swap}
+use Rattle.ebpf_machine.specs.Effect.{effect_of_call, effect_of_jump, effect_of_branch, effect_of_exit, result_number}
 use Rattle.ebpf_layout.specs.Layout.{moved}
 
 -- an effect that goes on, if it does, at another slot

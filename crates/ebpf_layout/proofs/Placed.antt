@@ -1,5 +1,6 @@
 -- One instruction more in the order of the new program.
-use Rattle.std.proofs.Common.{◌≡◌, ◌≢◌, ℕ, zero, suc, ◌+◌, ◌-◌, ◌<◌, ◌≤◌, List, [], ◌∷◌, ◌++◌, length, replicate, Option, Some, None, Bool, true, false, refl, sym, ap, ◌∙◌, subst, arith, inl, inr, ◌⊎◌}
+use Rattle.std.proofs.Common.{◌≡◌, ◌≢◌, ℕ, zero, suc, ◌+◌, ◌-◌, ◌<◌, ◌≤◌, List, [], ◌∷◌, ◌++◌, length, replicate, Option, Some, None, Bool, true}
+use Rattle.std.proofs.Common.{false, refl, sym, ap, ◌∙◌, subst, arith, inl, inr, ◌⊎◌}
 use Rattle.std.specs.Prelude.{slice_get, slice_set, is_none, IfSome, ◌&&◌, not}
 use Rattle.std.specs.List.{flat_map}
 use Rattle.std.proofs.lemmas.Option.{none-some, same_Some, slice_get_within, cond_some}
@@ -17,7 +18,8 @@ use Rattle.ebpf_layout.specs.Search.{size_of, done_slots, mark_at, if_there, sta
 use Rattle.ebpf_layout.specs.Placing.{is_placed, is_left, is_free, is_ready, GoesNext, Waits, AreNeighbours, IsPlacing}
 use Rattle.ebpf_layout.proofs.Lists.{get_kept, get_last, get_pushed, set_cases}
 use Rattle.ebpf_layout.proofs.PathLemmas.{fall_is_edge, jump_is_edge}
-use Rattle.ebpf_layout.proofs.Searching.{slots_of-push, size_done, none_done, open_done, done_same, unset, found, behind_more, behind_number, is_behind, there_inside, new_at, unmarked}
+use Rattle.ebpf_layout.proofs.Searching.{slots_of-push, size_done, none_done, open_done, done_same, unset, found, behind_more, behind_number}
+use Rattle.ebpf_layout.proofs.Searching.{is_behind, there_inside, new_at, unmarked}
 use Rattle.ebpf_layout.proofs.Reaching.{reached_in, last_in}
 
 -- ---- tests

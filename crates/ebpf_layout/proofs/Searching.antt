@@ -1,5 +1,6 @@
 -- What a step of the search leaves.
-use Rattle.std.proofs.Common.{◌≡◌, ◌≢◌, ℕ, zero, suc, ◌+◌, ◌-◌, ◌<◌, ◌≤◌, List, [], ◌∷◌, ◌++◌, length, take, replicate, Option, Some, None, false, refl, sym, ap, ◌∙◌, subst, arith, inl, inr, ◌⊎◌}
+use Rattle.std.proofs.Common.{◌≡◌, ◌≢◌, ℕ, zero, suc, ◌+◌, ◌-◌, ◌<◌, ◌≤◌, List, [], ◌∷◌, ◌++◌, length, take, replicate, Option, Some, None, false}
+use Rattle.std.proofs.Common.{refl, sym, ap, ◌∙◌, subst, arith, inl, inr, ◌⊎◌}
 use Rattle.std.specs.Prelude.{slice_get, slice_set, is_none, IfSome}
 use Rattle.std.proofs.lemmas.Option.{none-some, same_Some, slice_get_within}
 use Rattle.std.proofs.lemmas.Bool.{cases_lt, false≢true}
@@ -17,7 +18,8 @@ use Rattle.ebpf_layout.specs.Paths.{IsEdge, IsPath, IsReached}
 use Rattle.ebpf_layout.specs.declared.fault.LayoutFault.{LayoutFault}
 use Rattle.ebpf_layout.specs.declared.fault.LayoutFault.TheVariants.{Loop}
 use Rattle.ebpf_layout.specs.Refusal.{IsLoop, IsLayoutFault}
-use Rattle.ebpf_layout.specs.Search.{size_of, done_size, done_slots, slots_of, mark_at, if_there, standing, IsDone, is_done, left_at, left, IsBehind, AreMarked, IsSearch}
+use Rattle.ebpf_layout.specs.Search.{size_of, done_size, done_slots, slots_of, mark_at, if_there, standing, IsDone, is_done, left_at, left}
+use Rattle.ebpf_layout.specs.Search.{IsBehind, AreMarked, IsSearch}
 use Rattle.ebpf_layout.proofs.Lists.{get_kept, get_last, get_pushed, get_from_take, get_taken, set_cases}
 use Rattle.ebpf_layout.proofs.PathLemmas.{path_none, path_more, path_before, edge_cases, jump_is_edge, fall_is_edge}
 

@@ -1,5 +1,6 @@
 -- One instruction more before what is written.
-use Rattle.std.proofs.Common.{◌≡◌, ◌≢◌, ℕ, ◌+◌, ◌<◌, ◌≤◌, ℤ, pos, List, [], ◌∷◌, ◌++◌, length, get_or, Option, Some, None, false, eqb, refl, sym, ap, ◌∙◌, subst, arith, inl, inr, ◌⊎◌}
+use Rattle.std.proofs.Common.{◌≡◌, ◌≢◌, ℕ, ◌+◌, ◌<◌, ◌≤◌, ℤ, pos, List, [], ◌∷◌, ◌++◌, length, get_or, Option, Some, None, false, eqb, refl, sym}
+use Rattle.std.proofs.Common.{ap, ◌∙◌, subst, arith, inl, inr, ◌⊎◌}
 use Rattle.std.specs.Prelude.{slice_get}
 use Rattle.std.proofs.lemmas.Bool.{cases_Bool, eqb-true, eqb-false}
 use Rattle.std.proofs.lemmas.Option.{none-some, same_Some, slice_get_within, get_or_from_slice_get}
@@ -13,7 +14,8 @@ use Rattle.ebpf_layout.specs.declared.mark.Mark.TheVariants.{New, Done}
 use Rattle.ebpf_layout.specs.Layout.{moved}
 use Rattle.ebpf_layout.specs.Search.{mark_at, IsOrder}
 use Rattle.ebpf_layout.specs.Placing.{AreNeighbours}
-use Rattle.ebpf_layout.specs.Writing.{half_of, with_jump, HasPlace, IsWayTo, LeadsOn, IsMovedTo, Writes, StandsAt, JumpsTo, FallsRight, IsWritten, IsAddedAt, AreWritten}
+use Rattle.ebpf_layout.specs.Writing.{half_of, with_jump, HasPlace, IsWayTo, LeadsOn, IsMovedTo, Writes, StandsAt, JumpsTo, FallsRight, IsWritten}
+use Rattle.ebpf_layout.specs.Writing.{IsAddedAt, AreWritten}
 use Rattle.ebpf_layout.proofs.Lists.{get_kept, get_last, get_pushed}
 use Rattle.ebpf_layout.proofs.PathLemmas.{jump_is_edge, fall_edge, jump_of_edge}
 use Rattle.ebpf_layout.proofs.Searching.{done_inside, done_same, found, behind_number}

@@ -13,7 +13,8 @@ ghost use Rattle.ebpf_layout.specs.EdgeFaults.{edge_fault_at};
 ghost use Rattle.ebpf_layout.specs.Paths.{IsReached};
 ghost use Rattle.ebpf_layout.specs.Placing.{AreNeighbours};
 ghost use Rattle.ebpf_layout.specs.Search.{IsOrder};
-ghost use Rattle.ebpf_layout.specs.Writing.{half_of, with_jump, HasPlace, NotesLast, WritesJump, IsPlaced, IsWayTo, IsCode, LeadsOn, IsMovedTo, Writes, AreWritten, IsWriting};
+ghost use Rattle.ebpf_layout.specs.Writing.{half_of, with_jump, HasPlace, NotesLast, WritesJump, IsPlaced, IsWayTo, IsCode, LeadsOn, IsMovedTo};
+ghost use Rattle.ebpf_layout.specs.Writing.{Writes, AreWritten, IsWriting};
 
 use crate::edges::moved;
 use crate::mark::Mark;

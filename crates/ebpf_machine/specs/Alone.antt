@@ -7,7 +7,8 @@ use Rattle.ebpf_machine.specs.declared.report.Reply.TheVariants as reply
 use Rattle.ebpf_machine.specs.declared.answer.Answer.{Answer}
 use Rattle.ebpf_machine.specs.declared.answer.Answer.TheVariants.{Absent, Null, Slot}
 use Rattle.ebpf_machine.specs.World.{World, Running, Status, Going, Owner, Shelf, Kind, kinds_of, image_at, kind_in, standing, first_run, holds_of}
-use Rattle.ebpf_machine.specs.Events.{Illegal, Asking, Unasked, OfKind, AtShelf, asking_of, with_bytes, with_owner, without_shelved, with_slot_joined, with_slot_left, exec}
+use Rattle.ebpf_machine.specs.Events.{Illegal, Asking, Unasked, OfKind, AtShelf, asking_of, with_bytes, with_owner, without_shelved}
+use Rattle.ebpf_machine.specs.Events.{with_slot_joined, with_slot_left, exec}
 
 -- the world of one run, and the most objects that it held at one time
 pub record Alone : Type 0 where

@@ -1,5 +1,6 @@
 -- One event of the world: a run starts, or does the instruction at its pc; a slot joins a ledger, or leaves it.
-use Rattle.std.specs.Prelude.{ℕ, pos, ◌+◌, ◌++◌, ◌==◌, Bool, true, false, not, ◌&&◌, nat_le, nat_lt, List, [], ◌∷◌, length, filter, if◌then◌else◌, Option, Some, None, Result, Ok, Err, slice_get, slice_set}
+use Rattle.std.specs.Prelude.{ℕ, pos, ◌+◌, ◌++◌, ◌==◌, Bool, true, false, not, ◌&&◌, nat_le, nat_lt, List, [], ◌∷◌, length, filter, if◌then◌else◌}
+use Rattle.std.specs.Prelude.{Option, Some, None, Result, Ok, Err, slice_get, slice_set}
 use Rattle.ebpf_insn.specs.declared.insn.Insn.{Insn}
 use Rattle.ebpf_insn.specs.declared.insn.Insn.TheVariants as insn
 use Rattle.ebpf_insn.specs.declared.register.Reg.TheVariants.{R0, R1}
@@ -19,7 +20,8 @@ use Rattle.ebpf_machine.specs.Values.{Trap, TooManyObjects, Frame, read}
 use Rattle.ebpf_machine.specs.Effect.{Act, Nothing, Write, Ask, Free, Exchange, Effect, Goes, Ends, Traps, effect_at, with_value}
 use Rattle.ebpf_machine.specs.declared.answer.Answer.{Answer}
 use Rattle.ebpf_machine.specs.declared.answer.Answer.TheVariants.{Absent, Null, Slot}
-use Rattle.ebpf_machine.specs.World.{Name, World, Running, Status, Going, Exited, Trapped, Owner, Holder, Run, Shelf, is_in, is_in_ledger, is_home, is_call, is_shelf, standing, ledger_of, kind_in, image_at, holds_of, environment, first_run, name_of}
+use Rattle.ebpf_machine.specs.World.{Name, World, Running, Status, Going, Exited, Trapped, Owner, Holder, Run, Shelf, is_in, is_in_ledger, is_home}
+use Rattle.ebpf_machine.specs.World.{is_call, is_shelf, standing, ledger_of, kind_in, image_at, holds_of, environment, first_run, name_of}
 
 -- why an event is not legal. The causes are tested in this order, but for an event that names a kind: there an unknown one
 -- goes before what is wrong with the slot.

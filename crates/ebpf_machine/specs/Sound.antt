@@ -1,6 +1,7 @@
 -- What always holds: of a run, that what is known at its pc speaks of it, and that it is where the run alone is; of the world, that
 -- owners, ledgers and pointers fit together.
-use Rattle.std.specs.Prelude.{◌≡◌, ◌<◌, ◌≤◌, ℕ, pos, false, true, ◌==◌, List, [], length, All, Contains, count_by, FitsSigned, is_none, Option, Some, None, slice_get}
+use Rattle.std.specs.Prelude.{◌≡◌, ◌<◌, ◌≤◌, ℕ, pos, false, true, ◌==◌, List, [], length, All, Contains, count_by, FitsSigned, is_none, Option}
+use Rattle.std.specs.Prelude.{Some, None, slice_get}
 use Rattle.std.specs.Int.{w64}
 use Rattle.ebpf_insn.specs.declared.register.Reg.TheVariants.{R10}
 use Rattle.ebpf_insn.specs.Program.{instructions, insn_at, count_below}
@@ -14,7 +15,8 @@ use Rattle.ebpf_machine.specs.declared.value.Cell.{Cell}
 use Rattle.ebpf_machine.specs.declared.value.Cell.TheVariants.{Part}
 use Rattle.ebpf_machine.specs.Values.{Frame, read}
 use Rattle.ebpf_machine.specs.Effect.{Effect, Goes, Ends, Traps}
-use Rattle.ebpf_machine.specs.World.{Name, Status, Going, Exited, Trapped, World, Running, Owner, Run, IsOfKind, kinds_of, image_at, is_in, Kind, is_home_in, kind_from}
+use Rattle.ebpf_machine.specs.World.{Name, Status, Going, Exited, Trapped, World, Running, Owner, Run, IsOfKind, kinds_of, image_at, is_in, Kind}
+use Rattle.ebpf_machine.specs.World.{is_home_in, kind_from}
 use Rattle.ebpf_machine.specs.Alone.{replies_from, alone_after}
 use Rattle.ebpf_machine.specs.Replies.{replies_of}
 use Rattle.ebpf_machine.specs.View.{RunView, view_in}

@@ -1,5 +1,6 @@
 -- The world: ledgers, owners, object bytes and runs, and what it says of a slot.
-use Rattle.std.specs.Prelude.{◌≡◌, ◌<◌, ℕ, suc, ◌==◌, Bool, true, false, not, ◌&&◌, if◌then◌else◌, List, [], ◌∷◌, length, filter, map, replicate, pos, Option, Some, None, option_map, Result, Ok, Err, Contains, slice_get, slice_index_or}
+use Rattle.std.specs.Prelude.{◌≡◌, ◌<◌, ℕ, suc, ◌==◌, Bool, true, false, not, ◌&&◌, if◌then◌else◌, List, [], ◌∷◌, length, filter, map, replicate}
+use Rattle.std.specs.Prelude.{pos, Option, Some, None, option_map, Result, Ok, Err, Contains, slice_get, slice_index_or}
 use Rattle.std.specs.List.{list_any, find}
 use Rattle.ebpf_insn.specs.declared.register.Reg.{Reg}
 use Rattle.ebpf_insn.specs.declared.register.Reg.TheVariants.{R0, R1, R2, R3, R4, R5, R6, R7, R8, R9, R10}

@@ -4,7 +4,8 @@ ghost use Rattle.std.specs.Prelude.{◌≡◌, ◌≢◌, ◌≤◌, ◌<◌, �
 ghost use Rattle.ebpf_insn.specs.declared.program.TheConstants.{MAX_SLOTS};
 ghost use Rattle.ebpf_machine.specs.Bytes.{patched};
 ghost use Rattle.ebpf_machine.specs.World.{image_at};
-ghost use Rattle.ebpf_machine.specs.Store.{Store, AllStay, AllStayBut, OthersStayThan, ShelvesStay, ShelvesExchange, IsNobodys, one_of, reply_to_new, reply_to_swap};
+ghost use Rattle.ebpf_machine.specs.Store.{Store, AllStay, AllStayBut, OthersStayThan, ShelvesStay, ShelvesExchange, IsNobodys, one_of};
+ghost use Rattle.ebpf_machine.specs.Store.{reply_to_new, reply_to_swap};
 
 /// A store of objects: it answers calls of `new`, `free` and `swap`, and keeps the bytes of the objects that are out.
 ///

@@ -6,7 +6,8 @@
 //! mark of its run, and the next run has another, so that no mark is cleared at a start. What no longer counts, or was never
 //! written, is what an earlier run left there.
 
-ghost use Rattle.std.specs.Prelude.{◌≡◌, ℕ, ◌≤◌, ◌<◌, ◌+◌, ◌-◌, ◌/◌, replicate, true, false, ◌==◌, ◌&&◌, if◌then◌else◌, is_ok, None, Some, Ok, slice_index_or, Bool, length};
+ghost use Rattle.std.specs.Prelude.{◌≡◌, ℕ, ◌≤◌, ◌<◌, ◌+◌, ◌-◌, ◌/◌, replicate, true, false, ◌==◌, ◌&&◌, if◌then◌else◌, is_ok, None, Some, Ok};
+ghost use Rattle.std.specs.Prelude.{slice_index_or, Bool, length};
 ghost use Rattle.std.specs.Int.{byte_at};
 ghost use Rattle.ebpf_state.specs.Stack.{bytes_in, is_whole_word};
 ghost use Rattle.ebpf_machine.specs.declared.value.Value.{Value};

@@ -13,7 +13,8 @@ use Rattle.ebpf_object_file.specs.Section.{section_of, bytes_of}
 use Rattle.ebpf_object_file.specs.File.{name_limit}
 use Rattle.ebpf_object_file.specs.Text.{is_named, text_at}
 use Rattle.ebpf_object_file.specs.Lines.{has_table, table_of, PartValue, IsPartNamed, HasNoPart, IsBroken}
-use Rattle.ebpf_object_file.specs.Source.{AreLines, HasNoLines, IsLinesFault, HasTables, AreLinesOf, HasNoLinesOf, IsLinesOfFault, section_name, has_whole_name, named_section}
+use Rattle.ebpf_object_file.specs.Source.{AreLines, HasNoLines, IsLinesFault, HasTables, AreLinesOf, HasNoLinesOf, IsLinesOfFault, section_name}
+use Rattle.ebpf_object_file.specs.Source.{has_whole_name, named_section}
 use Rattle.ebpf_object_file.proofs.Chosen.{err_more}
 
 -- the section's name as the code reads it

@@ -1,5 +1,6 @@
 -- The lines of C that .BTF and .BTF.ext have (the kernel's documentation of BTF, "BTF Type and String Encoding" and ".BTF.ext section").
-use Rattle.std.specs.Prelude.{ℕ, Bool, true, false, ⊤, ◌≡◌, ◌≢◌, ◌≤◌, ◌<◌, Option, Some, None, ◌+◌, ◌*◌, ◌/◌, ◌%◌, List, [], ◌∷◌, length, take, drop, slice_index, ◌&&◌, ◌==◌, ◌||◌, nat_le, nat_lt, cond, ◌-◌}
+use Rattle.std.specs.Prelude.{ℕ, Bool, true, false, ⊤, ◌≡◌, ◌≢◌, ◌≤◌, ◌<◌, Option, Some, None, ◌+◌, ◌*◌, ◌/◌, ◌%◌, List, [], ◌∷◌, length, take}
+use Rattle.std.specs.Prelude.{drop, slice_index, ◌&&◌, ◌==◌, ◌||◌, nat_le, nat_lt, cond, ◌-◌}
 use Rattle.std.specs.List.{prefix_len}
 use Rattle.ebpf_object_file.specs.declared.lines.Part.{Part}
 use Rattle.ebpf_object_file.specs.declared.lines.Line.{Line}

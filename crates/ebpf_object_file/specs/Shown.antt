@@ -1,5 +1,6 @@
 -- A line of C as it is shown: its file, its number and its text.
-use Rattle.std.specs.Prelude.{ℕ, Bool, ◌<◌, ◌+◌, ◌*◌, ◌/◌, ◌++◌, List, Option, None, length, map, codes, decimal, cond, if◌then◌else◌, ◌||◌, ◌&&◌, ◌==◌, slice_index_or}
+use Rattle.std.specs.Prelude.{ℕ, Bool, ◌<◌, ◌+◌, ◌*◌, ◌/◌, ◌++◌, List, Option, None, length, map, codes, decimal, cond, if◌then◌else◌, ◌||◌, ◌&&◌}
+use Rattle.std.specs.Prelude.{◌==◌, slice_index_or}
 use Rattle.std.specs.Char.{is_ascii_graphic}
 use Rattle.ebpf_object_file.specs.declared.lines.Line.{Line}
 use Rattle.ebpf_object_file.specs.declared.lines.Lines.{Lines}

@@ -5,7 +5,8 @@ ghost use Rattle.ebpf_object_file.specs.Section.{sections_in, bytes_of as bytes_
 ghost use Rattle.ebpf_object_file.specs.Header.{header_of};
 ghost use Rattle.ebpf_object_file.specs.Symbol.{symbol_of as nth_symbol, is_function};
 ghost use Rattle.ebpf_object_file.specs.File.{IsOpen, AreFunctions};
-ghost use Rattle.ebpf_object_file.specs.Function.{is_code, code_of, IsAt, IsAlone, IsNamed, IsOnlyOne, IsCodeFault, IsFunctionFault, IsNamedFault, IsOnlyFault, IsWanted, IsWantedFault};
+ghost use Rattle.ebpf_object_file.specs.Function.{is_code, code_of, IsAt, IsAlone, IsNamed, IsOnlyOne, IsCodeFault, IsFunctionFault, IsNamedFault};
+ghost use Rattle.ebpf_object_file.specs.Function.{IsOnlyFault, IsWanted, IsWantedFault};
 
 use crate::call::find_call;
 use crate::fault::FileFault;

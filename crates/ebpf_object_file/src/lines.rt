@@ -1,7 +1,8 @@
 //! The lines of C that `.BTF` and `.BTF.ext` have.
 
 ghost use Rattle.std.specs.Prelude.{◌≡◌, ◌≤◌, ◌<◌, ◌≢◌, ◌+◌, ◌*◌, ◌/◌, length, true, false, drop, [], MatchOption, MatchResult, IfOk, IfErr};
-ghost use Rattle.ebpf_object_file.specs.Lines.{is_headed, has_table, table_of, is_part, part_of, part_size, IsPartNamed, HasNoPart, IsBroken, viewed, is_between, Holds, line_of as nth_line, later, is_blank, trimmed, file_limit, text_limit};
+ghost use Rattle.ebpf_object_file.specs.Lines.{is_headed, has_table, table_of, is_part, part_of, part_size, IsPartNamed, HasNoPart, IsBroken};
+ghost use Rattle.ebpf_object_file.specs.Lines.{viewed, is_between, Holds, line_of as nth_line, later, is_blank, trimmed, file_limit, text_limit};
 ghost use Rattle.ebpf_object_file.specs.Text.{text_at};
 ghost use Rattle.ebpf_object_file.specs.declared.fault.FileFault.TheVariants.{BadLines};
 

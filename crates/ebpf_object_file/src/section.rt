@@ -3,7 +3,8 @@
 ghost use Rattle.std.specs.Prelude.{◌≡◌, ◌≤◌, ◌<◌, ◌+◌, length, None, false};
 ghost use Rattle.ebpf_object_file.specs.First.{Finds, Counts, NoneBelow};
 ghost use Rattle.ebpf_object_file.specs.Header.{header_of, header_fault};
-ghost use Rattle.ebpf_object_file.specs.Section.{section_at, section_of as nth_section, has_no_bytes, contents, is_outside, is_wanted, sections_in, outside_in, wanted_in, bytes_of};
+ghost use Rattle.ebpf_object_file.specs.Section.{section_at, section_of as nth_section, has_no_bytes, contents, is_outside, is_wanted, sections_in};
+ghost use Rattle.ebpf_object_file.specs.Section.{outside_in, wanted_in, bytes_of};
 
 use crate::field::{is_inside, u32_at, u64_at};
 use crate::header::Header;

@@ -2,7 +2,8 @@
 
 ghost use Rattle.std.specs.Prelude.{◌≡◌, ◌≤◌, ◌<◌, ◌+◌, ◌*◌, ◌/◌, length, ℕ};
 ghost use Rattle.ebpf_object_file.specs.First.{Finds};
-ghost use Rattle.ebpf_object_file.specs.Symbol.{symbol_of as nth_symbol, symbol_or_null, is_in_file, is_of_section, is_function, is_function_named, function_from};
+ghost use Rattle.ebpf_object_file.specs.Symbol.{symbol_of as nth_symbol, symbol_or_null, is_in_file, is_of_section, is_function, is_function_named};
+ghost use Rattle.ebpf_object_file.specs.Symbol.{function_from};
 
 use crate::field::{u16_at, u32_at, u64_at};
 use crate::text::is_named;

@@ -1,5 +1,7 @@
 -- The table of ranges after a branch keeps each pair of numbers for which the branch goes that way.
-use Rattle.std.proofs.Common.{◌≡◌, ℕ, ◌+◌, ◌-◌, ◌/◌, ◌^◌, ◌<◌, ◌≤◌, ℤ, pos, negsuc, Bool, true, false, cond, not, eqb, nat_lt, nat_le, ◌==◌, ◌&&◌, ◌||◌, min, max, Option, Some, None, IfSome, IsSomeAnd, ◌⊎◌, inl, inr, ⊎_elim, refl, sym, ap, ap₂, ◌∙◌, arith, ltb-true, leb-true, ltb-false, leb-false, eqb-true, eq-eqb, le-leb, lt-ltb, int_lt, int_le}
+use Rattle.std.proofs.Common.{◌≡◌, ℕ, ◌+◌, ◌-◌, ◌/◌, ◌^◌, ◌<◌, ◌≤◌, ℤ, pos, negsuc, Bool, true, false, cond, not, eqb, nat_lt, nat_le, ◌==◌, ◌&&◌}
+use Rattle.std.proofs.Common.{◌||◌, min, max, Option, Some, None, IfSome, IsSomeAnd, ◌⊎◌, inl, inr, ⊎_elim, refl, sym, ap, ap₂, ◌∙◌, arith}
+use Rattle.std.proofs.Common.{ltb-true, leb-true, ltb-false, leb-false, eqb-true, eq-eqb, le-leb, lt-ltb, int_lt, int_le}
 use Rattle.std.proofs.Math.Nat.{mod-eq_of_lt}
 use Rattle.std.proofs.lemmas.Bool.{and_parts, and_from, cond_both, or_cases, cases_lt, not-true, not-false, true≢false}
 use Rattle.ebpf_insn.specs.declared.insn.Width.{Width}
@@ -10,7 +12,8 @@ use Rattle.ebpf_insn.specs.Arithmetic.{modulus, kept_at, signed_at, comparison, 
 use Rattle.ebpf_range.specs.declared.range.Range.{Range}
 use Rattle.ebpf_range.specs.Interval.{IsWithin, span}
 use Rattle.ebpf_range.specs.Results.{is_constant}
-use Rattle.ebpf_range.specs.Refinements.{after_eq, without, after_ne, after_gt, after_ge, exchange, unless_false, have_no_sign, after, after_not, fits, refinement}
+use Rattle.ebpf_range.specs.Refinements.{after_eq, without, after_ne, after_gt, after_ge, exchange, unless_false, have_no_sign, after, after_not}
+use Rattle.ebpf_range.specs.Refinements.{fits, refinement}
 use Rattle.ebpf_range.proofs.OperationLemmas.{signed_at-low}
 use Rattle.ebpf_range.proofs.RowLemmas.{same_end}
 

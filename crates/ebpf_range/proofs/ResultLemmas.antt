@@ -1,5 +1,6 @@
 -- The table of results holds every result, and numbers of the width alone.
-use Rattle.std.proofs.Common.{◌≡◌, ℕ, ◌+◌, ◌-◌, ◌*◌, ◌/◌, ◌%◌, ◌^◌, ◌<◌, ◌≤◌, cond, eqb, nat_lt, nat_le, ◌&&◌, min, sym, ap, ap₂, subst, arith, ltb-true, eqb-true}
+use Rattle.std.proofs.Common.{◌≡◌, ℕ, ◌+◌, ◌-◌, ◌*◌, ◌/◌, ◌%◌, ◌^◌, ◌<◌, ◌≤◌, cond, eqb, nat_lt, nat_le, ◌&&◌, min, sym, ap, ap₂, subst, arith}
+use Rattle.std.proofs.Common.{ltb-true, eqb-true}
 use Rattle.std.specs.Int.{w16, w32, w64, swap_bytes}
 use Rattle.std.proofs.Math.Nat.{mod-lt, mod-eq_of_lt, div-le_self, le_of_eq, lt_of_le_of_lt, pow-le-pow_right}
 use Rattle.std.proofs.lemmas.Nat.{pow_pos}
@@ -10,12 +11,14 @@ use Rattle.ebpf_insn.specs.declared.insn.Width.{Width}
 use Rattle.ebpf_insn.specs.declared.insn.Width.TheVariants.{W32, W64}
 use Rattle.ebpf_insn.specs.declared.insn.AluOp.{AluOp}
 use Rattle.ebpf_insn.specs.declared.insn.AluOp.TheVariants as op
-use Rattle.ebpf_insn.specs.Arithmetic.{modulus, kept_at, factor_at, operation, result_at, extension, extended_bits, extension_at, swapped_bits, reversal_of, swap, swap_of, negation_at}
+use Rattle.ebpf_insn.specs.Arithmetic.{modulus, kept_at, factor_at, operation, result_at, extension, extended_bits, extension_at, swapped_bits}
+use Rattle.ebpf_insn.specs.Arithmetic.{reversal_of, swap, swap_of, negation_at}
 use Rattle.ebpf_insn.specs.declared.insn.Order.{Order}
 use Rattle.ebpf_insn.specs.declared.insn.Order.TheVariants.{Little, Big, Flip}
 use Rattle.ebpf_range.specs.declared.range.Range.{Range}
 use Rattle.ebpf_range.specs.Interval.{IsWithin, constant, span, up_to, all_below, low}
-use Rattle.ebpf_range.specs.Results.{up, is_constant, sum_of, difference_of, product_of, quotient_of, remainder_of, left_shift_of, right_shift_of, signed_shift_of, row, low_at, row_or_constant, result_range, extension_range, swap_range, negation_range}
+use Rattle.ebpf_range.specs.Results.{up, is_constant, sum_of, difference_of, product_of, quotient_of, remainder_of, left_shift_of, right_shift_of}
+use Rattle.ebpf_range.specs.Results.{signed_shift_of, row, low_at, row_or_constant, result_range, extension_range, swap_range, negation_range}
 use Rattle.ebpf_range.proofs.OperationLemmas.{some_numbers, result-below}
 use Rattle.ebpf_range.proofs.RowLemmas.{within_all, small, up-least, row-sound}
 

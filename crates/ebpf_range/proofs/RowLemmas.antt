@@ -1,5 +1,6 @@
 -- Each row of the table of results holds what its operation gives on numbers of its operands' ranges.
-use Rattle.std.proofs.Common.{◌≡◌, ℕ, ◌+◌, ◌-◌, ◌*◌, ◌/◌, ◌%◌, ◌^◌, ◌<◌, ◌≤◌, Bool, true, false, cond, eqb, nat_lt, nat_le, ◌&&◌, ◌⊎◌, ⊎_elim, pow-suc, min, max, refl, sym, ap, ◌∙◌, subst, arith, bit_and, bit_or, bit_xor, ltb-true, leb-true, eqb-true}
+use Rattle.std.proofs.Common.{◌≡◌, ℕ, ◌+◌, ◌-◌, ◌*◌, ◌/◌, ◌%◌, ◌^◌, ◌<◌, ◌≤◌, Bool, true, false, cond, eqb, nat_lt, nat_le, ◌&&◌, ◌⊎◌, ⊎_elim}
+use Rattle.std.proofs.Common.{pow-suc, min, max, refl, sym, ap, ◌∙◌, subst, arith, bit_and, bit_or, bit_xor, ltb-true, leb-true, eqb-true}
 use Rattle.std.specs.Int.{w64, leading_zeros, int_shr}
 use Rattle.std.proofs.Math.Nat.{min-le_left, mod-lt, mod-le, mod-eq_of_lt, div-le_self, div-mul-le_self, le_refl, le_trans, pow-le-pow_right}
 use Rattle.std.proofs.lemmas.Nat.{pow_pos, mul-le, le-div, or_lt, xor_lt, and_le_l, and_le_r, le_or_l, le_or_r, leading_length}
@@ -11,7 +12,8 @@ use Rattle.ebpf_insn.specs.declared.insn.AluOp.TheVariants as op
 use Rattle.ebpf_insn.specs.Arithmetic.{modulus, bits_of, factor_at, unsigned_at, operation}
 use Rattle.ebpf_range.specs.declared.range.Range.{Range}
 use Rattle.ebpf_range.specs.Interval.{IsWithin, constant, span, up_to, all_below}
-use Rattle.ebpf_range.specs.Results.{up, is_constant, sum_of, difference_of, product_of, quotient_of, remainder_of, left_shift_of, right_shift_of, signed_shift_of, row}
+use Rattle.ebpf_range.specs.Results.{up, is_constant, sum_of, difference_of, product_of, quotient_of, remainder_of, left_shift_of, right_shift_of}
+use Rattle.ebpf_range.specs.Results.{signed_shift_of, row}
 use Rattle.ebpf_range.proofs.Wraps.{mod-wraps}
 use Rattle.ebpf_range.proofs.OperationLemmas.{some_numbers, operation-below, signed_at-low, unsigned_at-pos}
 

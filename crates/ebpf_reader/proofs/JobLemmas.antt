@@ -1,5 +1,7 @@
 -- The lines of jobs.
-use Rattle.std.proofs.Common.{◌≡◌, ℕ, ◌+◌, ◌-◌, ◌<◌, ◌≤◌, true, false, not, ◌==◌, ◌||◌, nat_le, Bool, List, [], ◌∷◌, ◌++◌, length, take, drop, get_or, codes, Option, Some, None, IfSome, Result, Ok, Err, OnOk, refl, sym, ap, ◌∙◌, subst, arith, append_assoc, length-append, length-take-le}
+use Rattle.std.proofs.Common.{◌≡◌, ℕ, ◌+◌, ◌-◌, ◌<◌, ◌≤◌, true, false, not, ◌==◌, ◌||◌, nat_le, Bool, List, [], ◌∷◌, ◌++◌, length, take, drop}
+use Rattle.std.proofs.Common.{get_or, codes, Option, Some, None, IfSome, Result, Ok, Err, OnOk, refl, sym, ap, ◌∙◌, subst, arith, append_assoc}
+use Rattle.std.proofs.Common.{length-append, length-take-le}
 use Rattle.std.specs.List.{list_all, All}
 use Rattle.std.proofs.lemmas.Bool.{and_parts, or_parts}
 use Rattle.std.proofs.lemmas.Bool.Decides.{nat_tests}
@@ -17,7 +19,7 @@ use Rattle.ebpf_reader.specs.Names.{is_name, is_name_byte}
 use Rattle.ebpf_reader.specs.ParsedScript.{Named, ParsedScript, number_of, declared_by, with_job}
 use Rattle.ebpf_reader.specs.ReadScripts.{parsed_script, Adds}
 use Rattle.ebpf_reader.specs.ScriptLines.{IsFirst, is_text}
-use Rattle.ebpf_reader.specs.Shapes.{JobLine, shape_of}
+use Rattle.ebpf_reader.specs.Shapes.{JobLine}
 use Rattle.ebpf_reader.specs.Words.{is_gap, words}
 use Rattle.ebpf_reader.proofs.WordLemmas.{words-at_gap, words-whole}
 
@@ -41,9 +43,6 @@ job_adds (Ok x) old new name hex bytes program declared read allowed number cont
     }
 
 -- ---- what the line of a job of the last job's program says
-
-pub again_shape : (line name hex : List ℕ) → words line ≡ codes "run" ∷ name ∷ hex ∷ [] → shape_of Jobs (words line) ≡ JobLine name hex
-again_shape line name hex split = rw split refl
 
 pub again_fault : (parsed : ParsedScript) (line name hex : List ℕ) → is_text line ≡ true → words line ≡ codes "run" ∷ name ∷ hex ∷ []
     → line_fault Jobs parsed line ≡ shape_fault parsed (JobLine name hex)

@@ -1,7 +1,8 @@
 -- A line of a stream of jobs, by its words.
-use Rattle.std.proofs.Common.{◌≡◌, ◌<◌, ◌==◌, ◌-◌, ℕ, true, false, true≢false, not, List, [], ◌∷◌, length, get_or, take, map, slice_get, codes, Option, Some, None, is_none, unwrap_or, IfSome, Result, Ok, Err, IfOk, refl, sym, ap, ◌∙◌, subst, arith, inl, inr, eq-zero-or-pos}
+use Rattle.std.proofs.Common.{◌≡◌, ◌<◌, ◌==◌, ◌-◌, ℕ, true, false, true≢false, not, List, [], ◌∷◌, length, get_or, take, map, slice_get}
+use Rattle.std.proofs.Common.{Option, Some, None, is_none, unwrap_or, IfSome, Result, Ok, Err, IfOk, refl, sym, ap, ◌∙◌, subst, arith, inl, inr}
+use Rattle.std.proofs.Common.{eq-zero-or-pos}
 use Rattle.std.specs.List.{list_all}
-use Rattle.std.specs.Str.{bytes_eq}
 use Rattle.std.proofs.lemmas.Bool.Decides.{nat_tests}
 use Rattle.std.proofs.lemmas.List.{take_all}
 use Rattle.std.proofs.lemmas.List.Folds.{list_all_at}
@@ -9,7 +10,7 @@ use Rattle.ebpf_command.specs.declared.done.FaultCode.TheVariants.{BadHex, BadNa
 use Rattle.ebpf_command.specs.declared.done.Stop.{Stop}
 use Rattle.ebpf_command.specs.HexText.{hex_or_dash}
 use Rattle.job_list.specs.declared.jobs.Job.{Job}
-use Rattle.ebpf_reader.specs.JobLines.{IsReadAs, job_line_fault, job_of, run_shape, stream_shape}
+use Rattle.ebpf_reader.specs.JobLines.{IsReadAs, job_line_fault, job_of, stream_shape}
 use Rattle.ebpf_reader.specs.LineFaults.{shape_fault, is_as_declared}
 use Rattle.ebpf_reader.specs.Names.{is_name}
 use Rattle.ebpf_reader.specs.ParsedScript.{Named, ParsedScript, number_of}
@@ -17,10 +18,6 @@ use Rattle.ebpf_reader.specs.ScriptLines.{IsFirst, is_text_byte, is_text}
 use Rattle.ebpf_reader.specs.Shapes.{Shape, Passed, Unknown, ProgramLine, StartLine, ExecLine, AnsweredLine, GrowLine, ReapLine, ArenaLine, JobLine, PassLine}
 use Rattle.ebpf_reader.specs.Words.{words}
 use Rattle.ebpf_reader.proofs.RunnableLemmas.{declared_here, job_tests, same_number}
-
-pub run_line : (first : List ℕ) (rest : List (List ℕ)) (a b : List ℕ) → rest ≡ a ∷ b ∷ [] → bytes_eq first (codes "run") ≡ true
-    → run_shape first rest ≡ JobLine a b
-run_line first rest a b is run = rw (is, run) refl
 
 -- the first six words say the shape
 pub six_of_stream : (words : List (List ℕ)) → stream_shape (take 6 words) ≡ stream_shape words

@@ -1,5 +1,6 @@
 -- The lines that are left of a text after its first bytes.
-use Rattle.std.proofs.Common.{◌≡◌, ℕ, suc, ◌+◌, ◌-◌, ◌<◌, ◌≤◌, Bool, true, false, ◌==◌, ◌||◌, cond, nat_le, List, [], ◌∷◌, ◌++◌, length, take, drop, get_or, refl, sym, ap, ◌∙◌, subst, arith, inl, inr, eq-zero-or-pos, length-drop}
+use Rattle.std.proofs.Common.{◌≡◌, ℕ, suc, ◌+◌, ◌-◌, ◌≤◌, Bool, true, false, ◌==◌, ◌||◌, cond, nat_le, List, [], ◌∷◌, ◌++◌, length, take}
+use Rattle.std.proofs.Common.{drop, get_or, refl, sym, ap, ◌∙◌, subst, arith, inl, inr, eq-zero-or-pos, length-drop}
 use Rattle.std.specs.List.{slice_split, list_all, All}
 use Rattle.std.proofs.lemmas.Bool.{and_parts, and_from}
 use Rattle.std.proofs.lemmas.Bool.Decides.{nat_tests}
@@ -49,17 +50,6 @@ pub lines_from-line : (text line : List ℕ) (from : ℕ) → from ≤ length te
 lines_from-line text line from within first =
     let inside : nat_le from (length text) ≡ true = grind (arith, nat_tests) in
     rw inside (first_of_lines (drop from text) line first ∙ ap (λ (lines : List (List ℕ)). line ∷ lines) (lines_from-drop text from (length line + 1) within))
-
--- all lines, and none
-pub lines_from-start : (text : List ℕ) → lines_from text 0 ≡ script_lines text
-lines_from-start text =
-    let inside : nat_le 0 (length text) ≡ true = grind (arith, nat_tests) in
-    rw inside refl
-
-pub lines_from-past : (text : List ℕ) (from : ℕ) → length text < from → lines_from text from ≡ []
-lines_from-past text from past =
-    let none : nat_le from (length text) ≡ false = grind (arith, nat_tests) in
-    rw none refl
 
 -- ---- where a text has only bytes of lines, each line has only bytes of text
 

@@ -1,5 +1,6 @@
 -- The lines of a script, one by one.
-use Rattle.std.proofs.Common.{◌≡◌, ℕ, ◌+◌, ◌==◌, ◌<◌, ◌≤◌, true, false, nat_lt, arith, List, [], ◌∷◌, length, get_or, take, Option, Some, None, Result, Ok, Err, OnOk, refl, sym, ◌∙◌, ap}
+use Rattle.std.proofs.Common.{◌≡◌, ℕ, ◌+◌, ◌==◌, ◌<◌, ◌≤◌, true, false, nat_lt, arith, List, [], ◌∷◌, length, get_or, take, Option, Some, None}
+use Rattle.std.proofs.Common.{Result, Ok, Err, OnOk, refl, sym, ◌∙◌, ap}
 use Rattle.std.proofs.lemmas.Bool.{lt-ltb}
 use Rattle.std.proofs.lemmas.Bool.Decides.{nat_tests}
 use Rattle.std.proofs.lemmas.List.{get_or_default, get_or_past}
@@ -17,7 +18,8 @@ use Rattle.ebpf_reader.specs.ReadScripts.{IsScriptStop, Adds, parsed_script, sto
 use Rattle.ebpf_reader.specs.ParsedScript.{ParsedScript, empty_script, with_line}
 use Rattle.ebpf_reader.specs.ScriptLines.{script_lines, is_text}
 use Rattle.ebpf_reader.specs.Scripts.{parsed_lines, parsed_text}
-use Rattle.ebpf_reader.specs.Shapes.{Shape, Passed, Unknown, ProgramLine, StartLine, ExecLine, AnsweredLine, GrowLine, ReapLine, ArenaLine, JobLine, PassLine, shape_of}
+use Rattle.ebpf_reader.specs.Shapes.{Shape, Passed, Unknown, ProgramLine, StartLine, ExecLine, AnsweredLine, GrowLine, ReapLine, ArenaLine}
+use Rattle.ebpf_reader.specs.Shapes.{JobLine, PassLine, shape_of}
 use Rattle.ebpf_reader.specs.Words.{words}
 use Rattle.ebpf_reader.proofs.ShapeLemmas.{six_say}
 
@@ -31,10 +33,6 @@ lines_fine d n parsed next line here rest is fine parses = rw (is, fine, parses)
 pub lines_faulty : (d : Dialect) (n : ℕ) (parsed : ParsedScript) (line : List ℕ) (here rest : List (List ℕ)) (code : FaultCode) → here ≡ line ∷ rest
     → line_fault d parsed line ≡ Some code → parsed_lines d (n + 1) parsed here ≡ Err (n + 1, code)
 lines_faulty d n parsed line here rest code is fault = rw (is, fault) refl
-
--- none are left
-pub lines_end : (d : Dialect) (n : ℕ) (parsed : ParsedScript) (here : List (List ℕ)) → here ≡ [] → parsed_lines d n parsed here ≡ Ok parsed
-lines_end d n parsed here none = rw none refl
 
 -- ---- a line by its first words
 

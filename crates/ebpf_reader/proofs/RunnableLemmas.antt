@@ -1,5 +1,7 @@
 -- A script without a fault can be run.
-use Rattle.std.proofs.Common.{◌≡◌, ◌≤◌, ◌<◌, ℕ, zero, suc, ◌+◌, ◌==◌, Bool, true, false, not, ◌&&◌, nat_le, nat_lt, cond, List, [], ◌∷◌, ◌++◌, length, map, slice_get, Option, Some, None, is_none, unwrap_or, option_map, position, find, IfSome, Ok, Err, refl, sym, ap, ◌∙◌, subst, arith}
+use Rattle.std.proofs.Common.{◌≡◌, ◌≤◌, ◌<◌, ℕ, zero, suc, ◌+◌, ◌==◌, Bool, true, false, not, ◌&&◌, nat_le, nat_lt, cond, List, [], ◌∷◌, ◌++◌}
+use Rattle.std.proofs.Common.{length, map, slice_get, Option, Some, None, is_none, unwrap_or, option_map, position, find, IfSome, Ok, Err, refl}
+use Rattle.std.proofs.Common.{sym, ap, ◌∙◌, subst, arith}
 use Rattle.std.specs.List.{position_or_len}
 use Rattle.std.specs.Str.{bytes_eq}
 use Rattle.std.proofs.lemmas.Bool.{leb-true}
@@ -20,7 +22,8 @@ use Rattle.ebpf_reader.specs.ParsedScript.{Named, ParsedScript, empty_script, wi
 use Rattle.ebpf_reader.specs.Runnable.{AreDeclared, IsRunnable}
 use Rattle.ebpf_reader.specs.Scripts.{parsed_lines, parsed_text, unless_fault}
 use Rattle.ebpf_reader.specs.ScriptLines.{script_lines, is_text}
-use Rattle.ebpf_reader.specs.Shapes.{Shape, Passed, Unknown, ProgramLine, StartLine, ExecLine, AnsweredLine, GrowLine, ReapLine, ArenaLine, JobLine, PassLine, shape_of}
+use Rattle.ebpf_reader.specs.Shapes.{Shape, Passed, Unknown, ProgramLine, StartLine, ExecLine, AnsweredLine, GrowLine, ReapLine, ArenaLine}
+use Rattle.ebpf_reader.specs.Shapes.{JobLine, PassLine, shape_of}
 use Rattle.ebpf_reader.specs.Words.{words}
 use Rattle.ebpf_reader.proofs.LinesLemmas.{lines_few}
 

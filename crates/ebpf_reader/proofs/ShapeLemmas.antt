@@ -1,5 +1,6 @@
 -- The shape of a line whose first word and number of words are known.
-use Rattle.std.proofs.Common.{◌≡◌, ◌≤◌, ◌<◌, ℕ, true, false, Bool, List, [], ◌∷◌, cond, map, take, length, get_or, codes, Some, Result, OnOk, IfErr, refl, sym, ap, ◌∙◌, subst, arith}
+use Rattle.std.proofs.Common.{◌≡◌, ◌≤◌, ◌<◌, ℕ, true, false, Bool, List, [], ◌∷◌, cond, map, take, length, get_or, codes, Some, Result, OnOk}
+use Rattle.std.proofs.Common.{IfErr, refl, sym, ap, ◌∙◌, subst, arith}
 use Rattle.std.specs.Str.{bytes_eq}
 use Rattle.ebpf_command.specs.declared.done.FaultCode.TheVariants.{UnknownLine}
 use Rattle.ebpf_command.specs.declared.done.Stop.{Stop}
@@ -10,16 +11,17 @@ use Rattle.ebpf_reader.specs.declared.script.Script.{Script}
 use Rattle.ebpf_reader.specs.LineFaults.{shape_fault}
 use Rattle.ebpf_reader.specs.ParsedScript.{ParsedScript}
 use Rattle.ebpf_reader.specs.ReadScripts.{Adds}
-use Rattle.ebpf_reader.specs.Shapes.{Shape, Passed, Unknown, StartLine, ExecLine, AnsweredLine, GrowLine, ReapLine, ArenaLine, JobLine, event_shape, job_shape, setup_shape, dialect_shape, line_shape, shape_of, is_comment}
+use Rattle.ebpf_reader.specs.Shapes.{Shape, Passed, Unknown, StartLine, ExecLine, AnsweredLine, GrowLine, ReapLine, ArenaLine, JobLine}
+use Rattle.ebpf_reader.specs.Shapes.{event_shape, job_shape, setup_shape, dialect_shape, line_shape, shape_of, is_comment}
 
 -- what a line of one shape adds, and why it is refused, is that of a line of the same shape
-pub shaped_ok : {T E : Type 0} (r : Result T E) (shape which : Shape) (old new : Script) → shape ≡ which
-    → OnOk r (Adds which old new) → OnOk r (Adds shape old new)
-shaped_ok r shape which old new same h = subst (λ (s : Shape). OnOk r (Adds s old new)) (sym same) h
-
-pub shaped_refused : {T : Type 0} (r : Result T Stop) (shape which : Shape) (parsed : ParsedScript) → shape ≡ which
-    → IfErr r (IsStop (shape_fault parsed which)) → IfErr r (IsStop (shape_fault parsed shape))
-shaped_refused r shape which parsed same h = subst (λ (s : Shape). IfErr r (IsStop (shape_fault parsed s))) (sym same) h
+pub shaped : {T : Type 0} (r : Result T Stop) (shape which : Shape) (parsed : ParsedScript) (old new : Script) → shape ≡ which
+    → OnOk r (Adds which old new) → IfErr r (IsStop (shape_fault parsed which))
+    → record { ok : OnOk r (Adds shape old new); refused : IfErr r (IsStop (shape_fault parsed shape)) }
+shaped r shape which parsed old new same ok refused = record {
+  ok = subst (λ (s : Shape). OnOk r (Adds s old new)) (sym same) ok;
+  refused = subst (λ (s : Shape). IfErr r (IsStop (shape_fault parsed s))) (sym same) refused;
+}
 
 -- what a test of the first word gave
 pub tested : (first : List ℕ) {word wanted : List ℕ} {r b : Bool} → word ≡ wanted → r ≡ bytes_eq first word → r ≡ b → bytes_eq first wanted ≡ b
@@ -79,13 +81,13 @@ no_long_event parsed first f (x ∷ y ∷ []) least = absurd (omega arith)
 no_long_event parsed first f (x ∷ y ∷ z ∷ xs) least = refl
 
 -- the lines of jobs
-pub arena_line : (first : List ℕ) (rest : List (List ℕ)) (a : List ℕ) → rest ≡ a ∷ [] → bytes_eq first (codes "arena") ≡ true
-    → job_shape first rest ≡ ArenaLine a
-arena_line first rest a is arena = rw (is, arena) refl
-
 pub job_line : (first : List ℕ) (rest : List (List ℕ)) (a b : List ℕ) → rest ≡ a ∷ b ∷ [] → bytes_eq first (codes "run") ≡ true
     → job_shape first rest ≡ JobLine a b
 job_line first rest a b is run = rw (is, run) refl
+
+pub arena_line : (first : List ℕ) (rest : List (List ℕ)) (a : List ℕ) → rest ≡ a ∷ [] → bytes_eq first (codes "arena") ≡ true
+    → job_shape first rest ≡ ArenaLine a
+arena_line first rest a is arena = rw (is, arena) refl
 
 pub setup_line : (first : List ℕ) (rest : List (List ℕ)) (a : List ℕ) → rest ≡ a ∷ [] → bytes_eq first (codes "arena") ≡ true
     → setup_shape first rest ≡ ArenaLine a

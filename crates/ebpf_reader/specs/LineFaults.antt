@@ -2,7 +2,8 @@
 use Rattle.std.specs.Prelude.{ℕ, Bool, not, ◌==◌, if◌then◌else◌, List, [], ◌∷◌, length, Option, Some, None, is_none, is_some, unwrap_or}
 use Rattle.ebpf_insn.specs.Faults.{first_of}
 use Rattle.ebpf_command.specs.declared.done.FaultCode.{FaultCode}
-use Rattle.ebpf_command.specs.declared.done.FaultCode.TheVariants.{UnprintableByte, UnknownLine, BadNumber, BadHex, BadName, UndefinedName, SecondArena, WrongContextLength}
+use Rattle.ebpf_command.specs.declared.done.FaultCode.TheVariants.{UnprintableByte, UnknownLine, BadNumber, BadHex, BadName, UndefinedName}
+use Rattle.ebpf_command.specs.declared.done.FaultCode.TheVariants.{SecondArena, WrongContextLength}
 use Rattle.ebpf_command.specs.HexText.{hex_or_dash}
 use Rattle.ebpf_reader.specs.declared.script.Dialect.{Dialect}
 use Rattle.ebpf_reader.specs.Names.{is_name}

@@ -1,7 +1,8 @@
 -- The codes of events that are not legal, as they are written.
 use Rattle.std.specs.Prelude.{ℕ, List, codes}
 use Rattle.ebpf_core.specs.declared.fault.ApplyCode.{ApplyCode}
-use Rattle.ebpf_core.specs.declared.fault.ApplyCode.TheVariants.{NoSuchRun, RunEnded, SlotNotHome, SlotOfAnotherKind, AnswerUnasked, AnswerMissing, SlotInLedger, SlotNotReapable, NoSuchProgramOrKind, WrongContext}
+use Rattle.ebpf_core.specs.declared.fault.ApplyCode.TheVariants.{NoSuchRun, RunEnded, SlotNotHome, SlotOfAnotherKind, AnswerUnasked, AnswerMissing}
+use Rattle.ebpf_core.specs.declared.fault.ApplyCode.TheVariants.{SlotInLedger, SlotNotReapable, NoSuchProgramOrKind, WrongContext}
 
 abbrev pub apply_name : ApplyCode → List ℕ
 apply_name NoSuchRun = codes "E1"

@@ -1,7 +1,8 @@
 -- Why a script can't be read, as the sentence of a line: the script's line as it is, and what is expected.
 use Rattle.std.specs.Prelude.{ℕ, ◌-◌, ◌++◌, ◌&&◌, nat_le, nat_lt, if◌then◌else◌, List, [], length, map, take, codes, decimal, slice_index_or}
 use Rattle.ebpf_command.specs.declared.done.FaultCode.{FaultCode}
-use Rattle.ebpf_command.specs.declared.done.FaultCode.TheVariants.{InputTooLong, UnprintableByte, UnknownLine, BadNumber, BadHex, BadName, UndefinedName, SecondArena, WrongContextLength}
+use Rattle.ebpf_command.specs.declared.done.FaultCode.TheVariants.{InputTooLong, UnprintableByte, UnknownLine, BadNumber, BadHex, BadName}
+use Rattle.ebpf_command.specs.declared.done.FaultCode.TheVariants.{UndefinedName, SecondArena, WrongContextLength}
 use Rattle.ebpf_reader.specs.ScriptLines.{script_lines}
 
 -- a byte that prints, or a space; a question mark for any other

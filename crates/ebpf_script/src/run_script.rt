@@ -17,12 +17,11 @@ use ebpf_command::done::{Done, EngineFault};
 use ebpf_command::format::Format;
 use ebpf_command::input::read_input;
 use ebpf_reader::read_script::read_script;
-use ebpf_reader::script::{Dialect, Programs, Script, ScriptStop};
-use ebpf_report::covered_text::write_covered;
+use ebpf_reader::script::{Dialect, Script, ScriptStop};
+use ebpf_report::covered_text::{DoneJobs, write_covered};
 use ebpf_report::meter::{Meter, Stage};
 use ebpf_report::run_answer::{JobsAnswer, RunAnswer, write_totals_in};
 use ebpf_report::verdicts::verdicts_on;
-use ebpf_verify::verified::Verified;
 use owners_table::owners::Owners;
 use std::alloc::{AllocError, Global};
 use std::io::{Read, Write};
@@ -121,15 +120,13 @@ fn answer_script<R: Threads + Wait + Sync, M: Meter>(
     meter.ended(Stage::Running);
     let mut totals = String::new(alloc);
     write_totals_in(&mut totals, ask.format, &outcome)?;
-    write_covered_in(
-        alloc,
-        &mut totals,
-        ask,
-        &script.programs,
-        &host.programs,
-        &script.jobs,
-        &outcome.reports,
-    )?;
+    let done = DoneJobs {
+        programs: &script.programs,
+        accepted: &host.programs,
+        jobs: &script.jobs,
+        reports: &outcome.reports,
+    };
+    write_covered_in(alloc, &mut totals, ask, &done)?;
     Ok(RunAnswer {
         beginning,
         jobs: Some(JobsAnswer {
@@ -146,20 +143,17 @@ fn write_covered_in(
     alloc: Global,
     text: &mut String,
     ask: RunAsk,
-    programs: &Programs,
-    accepted: &[Verified],
-    jobs: &Jobs,
-    reports: &PackedReports,
+    done: &DoneJobs<'_>,
 ) -> Result<(), AllocError>
-    requires known { AreKnown accepted.now }
-    requires all { length reports.now ≡ length jobs.now }
+    requires known { AreKnown done.now.accepted.now }
+    requires all { length done.now.reports.now ≡ length done.now.jobs.now }
     ensures { OnOk result (string_bytes text.new ≡ string_bytes text.old
-        ++ covered_lines ask.covered ask.format (map named programs.now.entries) accepted.now jobs.now reports.now) }
+        ++ covered_lines ask.covered ask.format (map named done.now.programs.now.entries) done.now.accepted.now done.now.jobs.now done.now.reports.now) }
 {
     if !ask.covered {
         return Ok(());
     }
-    write_covered(alloc, text, ask.format, programs, accepted, jobs, reports)
+    write_covered(alloc, text, ask.format, done)
 }
 
 // What comes of jobs that can be done.

@@ -1,5 +1,5 @@
 -- How the store of one run goes, call by call, and what that says where the run has ended.
-use Rattle.std.proofs.Common.{◌≡◌, ℕ, ◌+◌, Bool, true, false, List, [], ◌∷◌, ◌++◌, length, length-set, refl, sym, ap, ◌∙◌, arith}
+use Rattle.std.proofs.Common.{◌≡◌, ℕ, ◌+◌, Bool, false, List, [], ◌∷◌, ◌++◌, length, length-set, refl, sym, ap, ◌∙◌, arith}
 use Rattle.std.specs.Prelude.{slice_set, Option, Some, None}
 use Rattle.std.proofs.lemmas.List.{length_push}
 use Rattle.ebpf_machine.specs.declared.report.Reply.{Reply}
@@ -17,23 +17,6 @@ granted_goes nulls short nulls' short' table table' entry object is stays = reco
   nulls = stays.0;
   slots = ap (λ (t : List Entry). length t) is ∙ length_push table entry;
   ample = λ grants fine. (sym stays.1 ∙ fine, refl);
-}
-
--- one that was answered null, as calls are
-pub refused_goes : (nulls short : Bool) (table : List Entry) → nulls ≡ true → GoesBy (granting nulls short table) (reply.Null ∷ []) (granting nulls short table)
-refused_goes nulls short table refuses = record {
-  nulls = refl;
-  slots = omega arith;
-  ample = λ grants fine. let never : true ≡ false = sym refuses ∙ grants in absurd cc;
-}
-
--- one for which there was no memory
-pub short_goes : (nulls nulls' short : Bool) (table table' : List Entry) → nulls' ≡ nulls → table' ≡ table
-    → GoesBy (granting nulls short table) (reply.Null ∷ []) (granting nulls' true table')
-short_goes nulls nulls' short table table' stays same = record {
-  nulls = stays;
-  slots = let long = ap (λ (t : List Entry). length t) same in omega (arith, long);
-  ample = λ grants fine. let never : true ≡ false = fine in absurd cc;
 }
 
 -- an entry that is written again

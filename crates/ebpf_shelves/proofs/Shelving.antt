@@ -15,12 +15,6 @@ bare_none (suc zero) = refl
 bare_none (suc (suc zero)) = refl
 bare_none (suc (suc (suc shelf))) = refl
 
-pub not_bare : (shelf : ℕ) (o : Object) → on_shelf bare shelf ≡ Some o → ⊥
-not_bare shelf o on = let none = bare_none shelf in absurd (cc)
-
-pub are_bare : AreShelves bare
-are_bare = record { long = refl; fit = λ shelf o on. absurd (not_bare shelf o on); apart = λ shelf other o p on there same. absurd (not_bare shelf o on) }
-
 -- ---- what holds of an object, if it is one
 
 pub some_by : (P : Object → Type 0) (x : Option Object) → ((o : Object) → x ≡ Some o → P o) → IfSome x P

@@ -5,13 +5,14 @@ ghost use Rattle.ebpf_machine.specs.Kinds.{known_kinds};
 ghost use Rattle.ebpf_shelves.specs.Shelves.{FitsOn, IsExchanged, IsOff, bare, on_shelf, slot_on};
 
 use crate::object::Object;
+use ebpf_state::kinds::KINDS;
 use std::marker::Model;
 use std::mem;
 
 /// A shelf for each kind, by its number: on each is an object of the kind, or none. No two are in one slot.
 #[derive(Drop)]
 pub struct Shelves {
-    rooms: [Option<Object>; 3],
+    rooms: [Option<Object>; KINDS],
 }
 
 impl Model for Shelves {

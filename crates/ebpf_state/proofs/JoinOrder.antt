@@ -82,7 +82,10 @@ value_exchanges (Num a) (Num b) (Num c) = ap Num (hull_exchanges a b c)
 value_exchanges (Stk a) (Stk b) (Stk c) =
     joined_kept (int_eq a b) (Stk a) (Stk c) ∙ kept_twice (int_eq a b) (int_eq a c) (Stk a) (Stk a) refl ∙ sym (joined_kept (int_eq a c) (Stk a) (Stk b))
 value_exchanges (Ctx a l) (Ctx b m) (Ctx c n) = rw (min_exchanges a b c, max_exchanges l m n) refl
-value_exchanges (Ob r a l) (Ob q b m) (Ob s c n) = joined_kept (eqb r q) (Ob r (int_min a b) (int_max l m)) (Ob s c n) ∙ kept_twice (eqb r q) (eqb r s) (Ob r (int_min (int_min a b) c) (int_max (int_max l m) n)) (Ob r (int_min (int_min a c) b) (int_max (int_max l n) m)) (rw (min_exchanges a b c, max_exchanges l m n) refl) ∙ sym (joined_kept (eqb r s) (Ob r (int_min a c) (int_max l n)) (Ob q b m))
+value_exchanges (Ob r a l) (Ob q b m) (Ob s c n) = joined_kept (eqb r q) (Ob r (int_min a b) (int_max l m)) (Ob s c n) ∙
+    kept_twice (eqb r q) (eqb r s) (Ob r (int_min (int_min a b) c) (int_max (int_max l m) n))
+    (Ob r (int_min (int_min a c) b) (int_max (int_max l n) m)) (rw (min_exchanges a b c, max_exchanges l m n) refl) ∙ sym
+    (joined_kept (eqb r s) (Ob r (int_min a c) (int_max l n)) (Ob q b m))
 value_exchanges (May r) (May q) (May s) =
     joined_kept (eqb r q) (May r) (May s) ∙ kept_twice (eqb r q) (eqb r s) (May r) (May r) refl ∙ sym (joined_kept (eqb r s) (May r) (May q))
 value_exchanges _ _ _ = search rules

@@ -10,8 +10,11 @@ pub struct KindRow {
     pub fill: u8,
 }
 
+/// How many kinds there are: one for each cache and each shelf.
+pub const KINDS: usize = 3;
+
 /// The kinds that the caches have, by number.
-pub fn kinds() -> [KindRow; 3]
+pub fn kinds() -> [KindRow; KINDS]
     ensures { AreKinds result }
 {
     [

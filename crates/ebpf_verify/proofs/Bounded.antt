@@ -1,6 +1,7 @@
 -- A state before a slot has all registers, what it knows of their numbers lies below 2^64, and the answers that it knows are
 -- those of calls below the slot: the rules keep this.
-use Rattle.std.proofs.Common.{◌≡◌, ℕ, zero, suc, ◌+◌, ◌/◌, ◌<◌, ◌≤◌, ℤ, Bool, true, false, eqb, List, [], ◌∷◌, length, get_or, set, Option, Some, None, Result, Ok, Err, refl, ◌∙◌, arith, length-set, rules}
+use Rattle.std.proofs.Common.{◌≡◌, ℕ, zero, suc, ◌+◌, ◌/◌, ◌<◌, ◌≤◌, ℤ, Bool, true, false, eqb, List, [], ◌∷◌, length, get_or, set, Option, Some}
+use Rattle.std.proofs.Common.{None, Result, Ok, Err, refl, ◌∙◌, arith, length-set, rules}
 use Rattle.std.specs.Prelude.{All, ◌==◌, ◌&&◌, not}
 use Rattle.std.specs.Ordering.{int_eq}
 use Rattle.std.specs.Int.{int_min, int_max}
@@ -22,7 +23,8 @@ use Rattle.ebpf_state.specs.declared.stack.StackFault.{StackFault}
 use Rattle.ebpf_state.specs.declared.stack.StackFault.TheVariants.{SplitPointer}
 use Rattle.ebpf_state.specs.Abstract.{joined_value}
 use Rattle.ebpf_state.specs.Words.{spill_or_nothing, joined_word}
-use Rattle.ebpf_state.specs.Stack.{bytes_in, place_of, is_whole_word, covered, word_of, may_point, loaded_range, read_fault, loaded_number, loaded_word, loaded_at, loaded, overwritten, written, written_at, stored_words, stored_at, stored}
+use Rattle.ebpf_state.specs.Stack.{bytes_in, place_of, is_whole_word, covered, word_of, may_point, loaded_range, read_fault, loaded_number}
+use Rattle.ebpf_state.specs.Stack.{loaded_word, loaded_at, loaded, overwritten, written, written_at, stored_words, stored_at, stored}
 use Rattle.ebpf_state.specs.StateView.{StateView}
 use Rattle.ebpf_state.specs.States.{joined_list, register_of, with_register, first_state}
 use Rattle.ebpf_state.specs.References.{answer_known, settled_value, settled_word, settled, forgotten_value, forgotten_word, forgotten}

@@ -1,5 +1,6 @@
 -- One slot more is counted.
-use Rattle.std.proofs.Common.{◌≡◌, ◌<◌, ◌≤◌, ◌+◌, ℕ, Bool, true, false, if◌then◌else◌, List, Option, None, take, count_by, length, get_or, sym, ap, ◌∙◌, add-zero, arith}
+use Rattle.std.proofs.Common.{◌≡◌, ◌<◌, ◌≤◌, ◌+◌, ℕ, Bool, true, false, if◌then◌else◌, List, Option, None, take, count_by, length, get_or, sym, ap}
+use Rattle.std.proofs.Common.{◌∙◌, add-zero, arith}
 use Rattle.std.proofs.lemmas.List.Sums.{count_by_more_yes, count_by_more_no}
 use Rattle.std.proofs.lemmas.Option.{slice_get-get_or}
 use Rattle.ebpf_insn.specs.declared.insn.Insn.{Insn}

@@ -38,7 +38,8 @@ use Rattle.ebpf_operation.specs.declared.helper.Helper.TheVariants.{New, Free, E
 use Rattle.ebpf_operation.specs.Helpers.{helper_of}
 use Rattle.ebpf_verify.specs.Calls.{without_arguments, with_result, without_given, after_new, after_free, after_swap, after_call}
 use Rattle.ebpf_verify.specs.Rules.{after_operation, after_fall, after_jump}
-use Rattle.ebpf_verify.proofs.Bounded.{IsBoundedValue, IsFull, IsBoundedLoad, IsFullStore, register_bounded, full_weaker, with_register-full, settled-full, forgotten-full, loaded-bounded, context_bounded, stored-full}
+use Rattle.ebpf_verify.proofs.Bounded.{IsBoundedValue, IsFull, IsBoundedLoad, IsFullStore, register_bounded, full_weaker, with_register-full}
+use Rattle.ebpf_verify.proofs.Bounded.{settled-full, forgotten-full, loaded-bounded, context_bounded, stored-full}
 
 -- a state that is sent, if any, has all registers
 abbrev pub IsFullState : ℕ → Option StateView → Type 0
@@ -157,8 +158,14 @@ store_full slot size offset _ value s h b = tt
 -- ---- the table
 
 operation-full : (slot : ℕ) (i : Insn) (s : StateView) → IsDefined i → IsFull slot s → IsFullState slot (after_operation i s)
-operation-full slot (insn.Alu width o dst src) s defined h = with_register-full slot s dst (result_of width o (register_of s dst) (operand s width src)) h (result_bounded slot width o (register_of s dst) (operand s width src) (register_bounded slot s dst h) (operand_bounded slot s width src defined h))
-operation-full slot (insn.Sext width bits dst src) s defined h = with_register-full slot s dst (unary_value (extension_range width bits) (register_of s src)) h (unary_bounded slot (extension_range width bits) (register_of s src) (λ a b. extension-bounded width bits a) (register_bounded slot s src h))
+operation-full slot (insn.Alu width o dst src) s defined h = with_register-full slot s dst
+    (result_of width o (register_of s dst) (operand s width src)) h
+    (result_bounded slot width o (register_of s dst) (operand s width src) (register_bounded slot s dst h)
+    (operand_bounded slot s width src defined h))
+operation-full slot (insn.Sext width bits dst src) s defined h = with_register-full slot s dst
+    (unary_value (extension_range width bits) (register_of s src)) h
+    (unary_bounded slot (extension_range width bits) (register_of s src) (λ a b. extension-bounded width bits a)
+    (register_bounded slot s src h))
 operation-full slot (insn.Neg width dst) s defined h = with_register-full slot s dst (unary_value (negation_range width) (register_of s dst)) h (unary_bounded slot (negation_range width) (register_of s dst) (λ a b. negation-bounded width a) (register_bounded slot s dst h))
 operation-full slot (insn.Swap order bits dst) s defined h = with_register-full slot s dst (unary_value (swap_range order bits) (register_of s dst)) h (unary_bounded slot (swap_range order bits) (register_of s dst) (λ a b. swap-bounded order bits a) (register_bounded slot s dst h))
 operation-full slot (insn.Wide dst value) s defined h = with_register-full slot s dst (Num (constant value)) h (constant_bounded value defined)

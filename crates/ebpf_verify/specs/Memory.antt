@@ -15,7 +15,8 @@ use Rattle.ebpf_state.specs.References.{kind_held}
 use Rattle.ebpf_state.specs.Stack.{bytes_in, may_point, loaded_range, loaded, stored}
 use Rattle.ebpf_state.specs.StateView.{StateView}
 use Rattle.ebpf_verify.specs.declared.fault.VerifyCode.{VerifyCode}
-use Rattle.ebpf_verify.specs.declared.fault.VerifyCode.TheVariants.{UnsetRegister, FramePointerWritten, OutsideStack, UnsetStack, OutsideContext, ContextWritten, OutsideObject, UntestedAnswer, PartialPointer, NumberAsAddress}
+use Rattle.ebpf_verify.specs.declared.fault.VerifyCode.TheVariants.{UnsetRegister, FramePointerWritten, OutsideStack, UnsetStack, OutsideContext}
+use Rattle.ebpf_verify.specs.declared.fault.VerifyCode.TheVariants.{ContextWritten, OutsideObject, UntestedAnswer, PartialPointer, NumberAsAddress}
 use Rattle.ebpf_verify.specs.Operations.{is_frame_pointer}
 
 abbrev pub is_number : Abs → Bool

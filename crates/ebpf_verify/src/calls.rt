@@ -7,7 +7,8 @@ ghost use Rattle.ebpf_range.specs.Interval.{constant};
 ghost use Rattle.ebpf_state.specs.declared.value.Abs.{Abs};
 ghost use Rattle.ebpf_state.specs.States.{register_of};
 ghost use Rattle.ebpf_operation.specs.Helpers.{helper_of};
-ghost use Rattle.ebpf_verify.specs.Calls.{new_refusal, free_refusal, emit_refusal, is_that, swap_refusal, call_refusal, with_result, after_new, after_free, after_swap, after_call};
+ghost use Rattle.ebpf_verify.specs.Calls.{new_refusal, free_refusal, emit_refusal, is_that, swap_refusal, call_refusal, with_result, after_new};
+ghost use Rattle.ebpf_verify.specs.Calls.{after_free, after_swap, after_call};
 ghost use Rattle.ebpf_verify.specs.Verdict.{IsSlotFault};
 
 use crate::decl::Decl;
@@ -24,22 +25,22 @@ use ebpf_state::value::Abs;
 #[inline(never)]
 pub(crate) fn call(
     decl: Decl,
-    rows: &[KindRow],
+    kinds: &[KindRow],
     number: i32,
     slot: usize,
     state: &mut State,
 ) -> Result<(), VerifyFault>
     requires inside { slot < MAX_SLOTS }
-    requires few { length rows.now ≤ 8 }
-    ensures fine { OnOk result (call_refusal decl rows.now (helper_of number) state.old ≡ None) }
+    requires few { length kinds.now ≤ 8 }
+    ensures fine { OnOk result (call_refusal decl kinds.now (helper_of number) state.old ≡ None) }
     ensures known { OnOk result (after_call slot (helper_of number) state.old ≡ Some state.new) }
-    ensures refused { IfErr result (IsSlotFault slot (call_refusal decl rows.now (helper_of number) state.old)) }
+    ensures refused { IfErr result (IsSlotFault slot (call_refusal decl kinds.now (helper_of number) state.old)) }
 {
     match helper_of(number) {
-        Some(Helper::New) => call_new(decl, rows.len(), slot, state),
+        Some(Helper::New) => call_new(decl, kinds.len(), slot, state),
         Some(Helper::Free) => call_free(slot, state),
         Some(Helper::Emit) => call_emit(slot, state),
-        Some(Helper::Swap) => call_swap(decl, rows.len(), slot, state),
+        Some(Helper::Swap) => call_swap(decl, kinds.len(), slot, state),
         None => Err(refused_at(slot, VerifyCode::UnknownHelper)),
     }
 }

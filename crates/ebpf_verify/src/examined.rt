@@ -50,10 +50,10 @@ pub fn examine(
     alloc: Global,
     bytes: &[u8],
     decl: Decl,
-    rows: &[KindRow],
+    kinds: &[KindRow],
 ) -> Result<Examined, AllocError>
-    requires { AreRows rows.now }
-    ensures { IfOk result (IsExamined bytes.now decl rows.now) }
+    requires { AreRows kinds.now }
+    ensures { IfOk result (IsExamined bytes.now decl kinds.now) }
 {
     match follow(alloc, bytes)? {
         Followed::Undecoded { slot, code } => Ok(Examined::Undecoded { slot, code }),
@@ -66,7 +66,7 @@ pub fn examine(
             slot,
             code,
         }),
-        Followed::Flowed(flowed) => examine_flowed(alloc, flowed, decl, rows),
+        Followed::Flowed(flowed) => examine_flowed(alloc, flowed, decl, kinds),
     }
 }
 
@@ -75,13 +75,13 @@ fn examine_flowed(
     alloc: Global,
     flowed: Flowed,
     decl: Decl,
-    rows: &[KindRow],
+    kinds: &[KindRow],
 ) -> Result<Examined, AllocError>
-    requires { AreRows rows.now }
-    ensures { IfOk result (λ e. e ≡ examined_by (verdict (record { program = flowed; decl = decl; rows = rows.now })) (record { program = flowed; decl = decl; rows = rows.now })) }
+    requires { AreRows kinds.now }
+    ensures { IfOk result (λ e. e ≡ examined_by (verdict (record { program = flowed; decl = decl; rows = kinds.now })) (record { program = flowed; decl = decl; rows = kinds.now })) }
 {
-    match walk(alloc, &flowed, decl, rows) {
-        Ok(()) => Ok(Examined::Accepted(accept(alloc, flowed, decl, rows)?)),
+    match walk(alloc, &flowed, decl, kinds) {
+        Ok(()) => Ok(Examined::Accepted(accept(alloc, flowed, decl, kinds)?)),
         Err(VerifyFault::Refused { slot, code }) => Ok(Examined::Refused { flowed, slot, code }),
         Err(VerifyFault::NoMemory) => Err(AllocError),
     }

@@ -43,13 +43,13 @@ impl Load {
 /// What is known of the value that is loaded through a base, or the first code that refuses the load.
 pub(crate) fn load_value(
     context: u32,
-    rows: &[KindRow],
+    kinds: &[KindRow],
     load: Load,
     base: Abs,
     state: &State,
 ) -> Result<Abs, VerifyCode>
-    ensures refused { IfErr result (λ code. load_refusal context rows.now load.size load.signed load.dst load.offset base state.now ≡ Some code) }
-    ensures fine { OnOk result (load_refusal context rows.now load.size load.signed load.dst load.offset base state.now ≡ None) }
+    ensures refused { IfErr result (λ code. load_refusal context kinds.now load.size load.signed load.dst load.offset base state.now ≡ Some code) }
+    ensures fine { OnOk result (load_refusal context kinds.now load.size load.signed load.dst load.offset base state.now ≡ None) }
     ensures value { IfOk result (λ value. value ≡ loaded_value load.size load.signed load.offset base state.now) }
 {
     if base.is_unset() {
@@ -61,20 +61,20 @@ pub(crate) fn load_value(
     } else if base.is_may() {
         Err(VerifyCode::UntestedAnswer)
     } else {
-        read(context, rows, load, base, state)
+        read(context, kinds, load, base, state)
     }
 }
 
 // What is known of the bytes at a pointer, or the code that refuses the load of them.
 fn read(
     context: u32,
-    rows: &[KindRow],
+    kinds: &[KindRow],
     load: Load,
     base: Abs,
     state: &State,
 ) -> Result<Abs, VerifyCode>
-    ensures refused { IfErr result (λ code. reading_refusal context rows.now load.size load.signed load.offset base state.now ≡ Some code) }
-    ensures fine { OnOk result (reading_refusal context rows.now load.size load.signed load.offset base state.now ≡ None) }
+    ensures refused { IfErr result (λ code. reading_refusal context kinds.now load.size load.signed load.offset base state.now ≡ Some code) }
+    ensures fine { OnOk result (reading_refusal context kinds.now load.size load.signed load.offset base state.now ≡ None) }
     ensures value { IfOk result (λ value. value ≡ loaded_value load.size load.signed load.offset base state.now) }
 {
     match base {
@@ -83,7 +83,7 @@ fn read(
             VerifyCode::OutsideContext,
         ),
         Abs::Ob(call, low, high) => {
-            read_bytes(load, size_held(rows, call, state), low, high).ok_or(
+            read_bytes(load, size_held(kinds, call, state), low, high).ok_or(
                 VerifyCode::OutsideObject,
             )
         }
@@ -150,13 +150,13 @@ fn is_in_bounds(len: u32, low: i64, high: i64, offset: i16, bytes: usize) -> boo
 }
 
 // How many bytes the object of a call has. Nothing has none.
-fn size_held(rows: &[KindRow], call: u16, state: &State) -> u32
-    ensures { result ≡ size_held rows.now call state.now }
+fn size_held(kinds: &[KindRow], call: u16, state: &State) -> u32
+    ensures { result ≡ size_held kinds.now call state.now }
 {
     let Some(kind) = state.kind(call) else {
         return 0;
     };
-    match rows.get(kind as usize) {
+    match kinds.get(kind as usize) {
         Some(row) => row.size,
         None => 0,
     }
@@ -203,15 +203,15 @@ impl Store {
 
 /// Says in the state that a value is stored through a base, or says why that can't be.
 pub(crate) fn store_value(
-    rows: &[KindRow],
+    kinds: &[KindRow],
     store: Store,
     slot: usize,
     state: &mut State,
 ) -> Result<(), VerifyFault>
     requires { slot < MAX_SLOTS }
-    ensures fine { OnOk result (refusal_of_store rows.now store.size store.base store.offset store.src state.old ≡ None) }
+    ensures fine { OnOk result (refusal_of_store kinds.now store.size store.base store.offset store.src state.old ≡ None) }
     ensures known { OnOk result (state_after_store store.size store.base store.offset store.src state.old ≡ Some state.new) }
-    ensures refused { IfErr result (IsSlotFault slot (refusal_of_store rows.now store.size store.base store.offset store.src state.old)) }
+    ensures refused { IfErr result (IsSlotFault slot (refusal_of_store kinds.now store.size store.base store.offset store.src state.old)) }
 {
     let value = operand(state, Width::W64, store.src);
     match state.reg(store.base) {
@@ -220,7 +220,7 @@ pub(crate) fn store_value(
         Abs::Stk(k) => store_on_stack(store, k, value, slot, state),
         Abs::Ctx(_, _) => Err(refused_at(slot, VerifyCode::ContextWritten)),
         Abs::Ob(call, low, high) => {
-            let len = size_held(rows, call, state);
+            let len = size_held(kinds, call, state);
             if !is_in_bounds(len, low, high, store.offset, bytes_in(store.size)) {
                 Err(refused_at(slot, VerifyCode::OutsideObject))
             } else if value.is_pointer() || value.is_may() {

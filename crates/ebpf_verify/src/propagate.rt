@@ -40,7 +40,7 @@ use std::alloc::AllocError;
 /// are then isn't said.
 pub fn pass_on(
     decl: Decl,
-    rows: &[KindRow],
+    kinds: &[KindRow],
     insn: &Insn,
     slot: usize,
     mut state: State,
@@ -48,13 +48,13 @@ pub fn pass_on(
     entries: &mut Vec<EntryState>,
 ) -> Result<(), VerifyFault>
     requires inside { slot < MAX_SLOTS }
-    requires few { length rows.now ≤ 8 }
+    requires few { length kinds.now ≤ 8 }
     requires fall { IfSome edges.fall (λ to. to < length entries.old.items) }
     requires jump { IfSome edges.jump (λ to. to < length entries.old.items) }
     ensures len { length entries.new.items ≡ length entries.old.items }
-    ensures fine { OnOk result (refusal decl rows.now insn.now state ≡ None) }
+    ensures fine { OnOk result (refusal decl kinds.now insn.now state ≡ None) }
     ensures sent { OnOk result (ChangesEach entries.old.items entries.new.items (λ t. with_sent (Some insn.now) edges slot t (EntryState.Known state))) }
-    ensures refused { IfErr result (IsSlotFault slot (refusal decl rows.now insn.now state)) }
+    ensures refused { IfErr result (IsSlotFault slot (refusal decl kinds.now insn.now state)) }
 {
     match *insn {
         Insn::Jump { .. } | Insn::JumpFar { .. } => send(entries, edges.jump, state),
@@ -70,7 +70,7 @@ pub fn pass_on(
         }
         Insn::Exit => exit_at(slot, &state)?,
         _ => {
-            act(decl, rows, insn, slot, &mut state)?;
+            act(decl, kinds, insn, slot, &mut state)?;
             send(entries, edges.fall, state);
         }
     }
@@ -101,18 +101,18 @@ pub(crate) fn compute_at(
 // Says in the state what is known after an instruction that goes to the slot after it alone, or says why that is refused.
 fn act(
     decl: Decl,
-    rows: &[KindRow],
+    kinds: &[KindRow],
     insn: &Insn,
     slot: usize,
     state: &mut State,
 ) -> Result<(), VerifyFault>
     requires inside { slot < MAX_SLOTS }
-    requires few { length rows.now ≤ 8 }
+    requires few { length kinds.now ≤ 8 }
     requires acts { Acts insn.now }
-    ensures fine { OnOk result (refusal decl rows.now insn.now state.old ≡ None) }
+    ensures fine { OnOk result (refusal decl kinds.now insn.now state.old ≡ None) }
     ensures known { OnOk result (after_fall slot insn.now state.old ≡ Some state.new) }
     ensures straight { OnOk result (after_jump insn.now state.old ≡ None) }
-    ensures refused { IfErr result (IsSlotFault slot (refusal decl rows.now insn.now state.old)) }
+    ensures refused { IfErr result (IsSlotFault slot (refusal decl kinds.now insn.now state.old)) }
 {
     match *insn {
         Insn::Store {
@@ -120,9 +120,9 @@ fn act(
             base,
             offset,
             src,
-        } => store_value(rows, Store::new(size, base, offset, src), slot, state),
-        Insn::Call { number } => call(decl, rows, number, slot, state),
-        _ => operate(decl, rows, insn, slot, state),
+        } => store_value(kinds, Store::new(size, base, offset, src), slot, state),
+        Insn::Call { number } => call(decl, kinds, number, slot, state),
+        _ => operate(decl, kinds, insn, slot, state),
     }
 }
 
@@ -141,16 +141,16 @@ fn exit_at(slot: usize, state: &State) -> Result<(), VerifyFault>
 // Says in the state what is known after an arithmetic instruction or a load, or says why that is refused.
 fn operate(
     decl: Decl,
-    rows: &[KindRow],
+    kinds: &[KindRow],
     insn: &Insn,
     slot: usize,
     state: &mut State,
 ) -> Result<(), VerifyFault>
     requires inside { slot < MAX_SLOTS }
     requires writes { IsSome (after_operation insn.now state.old) }
-    ensures fine { OnOk result (refusal decl rows.now insn.now state.old ≡ None) }
+    ensures fine { OnOk result (refusal decl kinds.now insn.now state.old ≡ None) }
     ensures known { OnOk result (after_operation insn.now state.old ≡ Some state.new) }
-    ensures refused { IfErr result (IsSlotFault slot (refusal decl rows.now insn.now state.old)) }
+    ensures refused { IfErr result (IsSlotFault slot (refusal decl kinds.now insn.now state.old)) }
 {
     if let Insn::Alu {
         width,
@@ -161,7 +161,7 @@ fn operate(
     {
         return compute_at(*width, *op, *dst, src, slot, state);
     }
-    match operation(decl, rows, insn, state) {
+    match operation(decl, kinds, insn, state) {
         Ok((dst, value)) => {
             state.set(dst, value);
             Ok(())

@@ -50,15 +50,15 @@ pub(crate) fn compute(
 /// refuses the instruction. Its operands are read once for both.
 pub(crate) fn operation(
     decl: Decl,
-    rows: &[KindRow],
+    kinds: &[KindRow],
     insn: &Insn,
     state: &State,
 ) -> Result<(Reg, Abs), VerifyCode>
     requires writes { IsSome (after_operation insn.now state.now) }
     requires other { (width : Width) (op : AluOp) (dst : Reg) (src : Source) → insn.now ≡ Insn.Alu width op dst src → ⊥ }
-    ensures fine { OnOk result (refusal decl rows.now insn.now state.now ≡ None) }
+    ensures fine { OnOk result (refusal decl kinds.now insn.now state.now ≡ None) }
     ensures value { IfOk result (λ written. after_operation insn.now state.now ≡ Some (with_register state.now written.0 written.1)) }
-    ensures refused { IfErr result (λ code. refusal decl rows.now insn.now state.now ≡ Some code) }
+    ensures refused { IfErr result (λ code. refusal decl kinds.now insn.now state.now ≡ Some code) }
 {
     match *insn {
         Insn::Load {
@@ -69,7 +69,7 @@ pub(crate) fn operation(
             offset,
         } => {
             let load = Load::new(size, signed, dst, offset);
-            let value = load_value(decl.context, rows, load, state.reg(base), state)?;
+            let value = load_value(decl.context, kinds, load, state.reg(base), state)?;
             Ok((dst, value))
         }
         Insn::Wide { dst, value } => Ok((dst, constant_value(value, dst)?)),

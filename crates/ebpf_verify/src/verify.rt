@@ -49,15 +49,15 @@ pub fn verify(
     alloc: Global,
     flowed: Flowed,
     decl: Decl,
-    rows: &[KindRow],
+    kinds: &[KindRow],
 ) -> Result<Verified, VerifyFault>
-    requires { AreRows rows.now }
-    ensures accepted { IfOk result (λ v. v ≡ record { program = flowed; decl = decl; rows = rows.now }) }
-    ensures fine { OnOk result (verdict (record { program = flowed; decl = decl; rows = rows.now }) ≡ None) }
-    ensures refused { IfErr result (IsVerifyFault (record { program = flowed; decl = decl; rows = rows.now })) }
+    requires { AreRows kinds.now }
+    ensures accepted { IfOk result (λ v. v ≡ record { program = flowed; decl = decl; rows = kinds.now }) }
+    ensures fine { OnOk result (verdict (record { program = flowed; decl = decl; rows = kinds.now }) ≡ None) }
+    ensures refused { IfErr result (IsVerifyFault (record { program = flowed; decl = decl; rows = kinds.now })) }
 {
-    walk(alloc, &flowed, decl, rows)?;
-    Ok(accept(alloc, flowed, decl, rows)?)
+    walk(alloc, &flowed, decl, kinds)?;
+    Ok(accept(alloc, flowed, decl, kinds)?)
 }
 
 // Visits each slot of a program, up to one that is refused.
@@ -65,16 +65,16 @@ pub(crate) fn walk(
     alloc: Global,
     flowed: &Flowed,
     decl: Decl,
-    rows: &[KindRow],
+    kinds: &[KindRow],
 ) -> Result<(), VerifyFault>
-    requires { AreRows rows.now }
-    ensures fine { OnOk result (verdict (record { program = flowed.now; decl = decl; rows = rows.now }) ≡ None) }
-    ensures refused { IfErr result (IsVerifyFault (record { program = flowed.now; decl = decl; rows = rows.now })) }
+    requires { AreRows kinds.now }
+    ensures fine { OnOk result (verdict (record { program = flowed.now; decl = decl; rows = kinds.now }) ≡ None) }
+    ensures refused { IfErr result (IsVerifyFault (record { program = flowed.now; decl = decl; rows = kinds.now })) }
 {
     let slots = flowed.program().slots();
     let mut entries = first_entries(alloc, slots)?;
     for slot in 0..slots {
-        visit(flowed, decl, rows, slot, &mut entries)?;
+        visit(flowed, decl, kinds, slot, &mut entries)?;
     }
     Ok(())
 }
@@ -84,13 +84,13 @@ pub(crate) fn accept(
     alloc: Global,
     flowed: Flowed,
     decl: Decl,
-    rows: &[KindRow],
+    kinds: &[KindRow],
 ) -> Result<Verified, AllocError>
-    requires rows { AreRows rows.now }
-    requires fine { verdict (record { program = flowed; decl = decl; rows = rows.now }) ≡ None }
-    ensures { IfOk result (λ v. v ≡ record { program = flowed; decl = decl; rows = rows.now }) }
+    requires rows { AreRows kinds.now }
+    requires fine { verdict (record { program = flowed; decl = decl; rows = kinds.now }) ≡ None }
+    ensures { IfOk result (λ v. v ≡ record { program = flowed; decl = decl; rows = kinds.now }) }
 {
-    let kept = Vec::from_slice(alloc, rows)?;
+    let kept = Vec::from_slice(alloc, kinds)?;
     let operations = operations_of(alloc, &flowed)?;
     let (calls, swaps) = calls_in(flowed.program());
     Ok(Verified {
@@ -125,17 +125,17 @@ pub(crate) fn first_entries(alloc: Global, slots: usize) -> Result<Vec<EntryStat
 pub(crate) fn visit(
     flowed: &Flowed,
     decl: Decl,
-    rows: &[KindRow],
+    kinds: &[KindRow],
     slot: usize,
     entries: &mut Vec<EntryState>,
 ) -> Result<(), VerifyFault>
     requires inside { slot < length flowed.now }
-    requires few { length rows.now ≤ 8 }
+    requires few { length kinds.now ≤ 8 }
     requires len { length entries.old.items ≡ length flowed.now }
     ensures len { length entries.new.items ≡ length entries.old.items }
-    ensures fine { OnOk result (refusal_in decl rows.now (insn_at flowed.now slot) (entry_in entries.old.items slot) ≡ None) }
+    ensures fine { OnOk result (refusal_in decl kinds.now (insn_at flowed.now slot) (entry_in entries.old.items slot) ≡ None) }
     ensures sent { OnOk result ((t : ℕ) → slot < t → t < length flowed.now → entry_in entries.new.items t ≡ after_visit flowed.now slot entries.old.items t) }
-    ensures refused { IfErr result (IsSlotFault slot (refusal_in decl rows.now (insn_at flowed.now slot) (entry_in entries.old.items slot))) }
+    ensures refused { IfErr result (IsSlotFault slot (refusal_in decl kinds.now (insn_at flowed.now slot) (entry_in entries.old.items slot))) }
 {
     let Some(insn) = flowed.program().at(slot) else {
         return match entries[slot] {
@@ -144,7 +144,7 @@ pub(crate) fn visit(
         };
     };
     match mem::replace(&mut entries[slot], EntryState::Unreached) {
-        EntryState::Known(state) => pass_along(flowed, decl, rows, insn, slot, state, entries),
+        EntryState::Known(state) => pass_along(flowed, decl, kinds, insn, slot, state, entries),
         EntryState::Conflict => Err(refused_at(slot, VerifyCode::PathsDiffer)),
         EntryState::Unreached => Ok(()),
     }
@@ -155,7 +155,7 @@ pub(crate) fn visit(
 fn pass_along(
     flowed: &Flowed,
     decl: Decl,
-    rows: &[KindRow],
+    kinds: &[KindRow],
     insn: &Insn,
     slot: usize,
     mut state: State,
@@ -163,12 +163,12 @@ fn pass_along(
 ) -> Result<(), VerifyFault>
     requires here { insn_at flowed.now slot ≡ Some insn.now }
     requires inside { slot < MAX_SLOTS }
-    requires few { length rows.now ≤ 8 }
+    requires few { length kinds.now ≤ 8 }
     requires len { length entries.old.items ≡ length flowed.now }
     ensures len { length entries.new.items ≡ length entries.old.items }
-    ensures fine { OnOk result (refusal decl rows.now insn.now state ≡ None) }
+    ensures fine { OnOk result (refusal decl kinds.now insn.now state ≡ None) }
     ensures sent { OnOk result (ChangesEach entries.old.items entries.new.items (λ t. with_sent (Some insn.now) (edges_at flowed.now slot) slot t (EntryState.Known state))) }
-    ensures refused { IfErr result (IsSlotFault slot (refusal decl rows.now insn.now state)) }
+    ensures refused { IfErr result (IsSlotFault slot (refusal decl kinds.now insn.now state)) }
 {
     match insn {
         // Arithmetic, which most instructions are, asks for no more than its state and where it goes on.
@@ -184,7 +184,7 @@ fn pass_along(
         }
         _ => {
             let edges = flowed.successors(slot);
-            pass_on(decl, rows, insn, slot, state, edges, entries)
+            pass_on(decl, kinds, insn, slot, state, edges, entries)
         }
     }
 }

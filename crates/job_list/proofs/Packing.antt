@@ -1,5 +1,6 @@
 -- What is packed comes back.
-use Rattle.std.proofs.Common.{ℕ, suc, ◌≡◌, ◌≤◌, ◌<◌, ◌+◌, ◌-◌, ◌*◌, ◌/◌, ◌%◌, ◌^◌, List, [], ◌∷◌, ◌++◌, length, take, drop, set, slice_index_or, refl, sym, ◌∙◌, arith, add-one}
+use Rattle.std.proofs.Common.{ℕ, suc, ◌≡◌, ◌≤◌, ◌<◌, ◌+◌, ◌-◌, ◌*◌, ◌/◌, ◌%◌, ◌^◌, List, [], ◌∷◌, ◌++◌, length, take, drop, set, slice_index_or}
+use Rattle.std.proofs.Common.{refl, sym, ◌∙◌, arith, add-one}
 use Rattle.std.proofs.lemmas.Nat.{div-mul-add, mod-mul-add, pow-add}
 use Rattle.std.proofs.lemmas.List.{append-nil, append_assoc, drop_more, take_more_set}
 use Rattle.std.proofs.Math.Nat.{pow-le-pow_right}

@@ -99,20 +99,6 @@ impl Model for JobReport {
 }
 
 impl JobReport {
-    /// The place of a report that is still to come: it has no exit.
-    pub(crate) fn none() -> JobReport
-        ensures { result.exit ≡ None }
-    {
-        let numbers = Numbers {
-            executed: 0,
-            peak: 0,
-            exited: false,
-        };
-        JobReport {
-            kept: Kept::Answered(FewAnswers::of(&[]), numbers, 0),
-        }
-    }
-
     /// The report of a run that has ended, and the memory of that run. It takes the spare box where its lists need one.
     pub fn of<H>(ended: Ended<H>, spare: &mut Option<Box<Rest>>) -> (JobReport, Workspace<H>)
         requires spare { is_some spare.old ≡ true }

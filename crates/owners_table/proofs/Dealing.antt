@@ -1,38 +1,75 @@
 -- Seats that are dealt out of one with all sheets, one at a time.
-use Rattle.std.proofs.Common.{◌≡◌, ℕ, suc, ◌+◌, ◌-◌, ◌<◌, ◌≤◌, List, [], ◌∷◌, length, drop, replicate, Fits, w64, sym, ap, ◌∙◌, subst, arith, rules}
+use Rattle.std.proofs.Common.{◌≡◌, ℕ, suc, ◌+◌, ◌-◌, ◌<◌, ◌≤◌, List, [], ◌∷◌, ◌++◌, drop, take, replicate, sym, ap, ◌∙◌, subst, arith}
+use Rattle.std.proofs.lemmas.List.Elements.{All-push}
 use Rattle.std.specs.List.{All}
+use Rattle.atomic_table.specs.Seated.{TableId}
+use Rattle.atomic_table.specs.declared.shared.Seat.{Seat}
 use Rattle.owners_table.specs.Sheets.{first_or}
 
--- the rest is one shorter
-pub rest-dealt : {A : Type 0} (n i : ℕ) (a : A) → i < n → drop 1 (replicate (suc (n - i)) a) ≡ replicate (suc (n - (i + 1))) a
-rest-dealt n i a more = let e : n - i ≡ suc (n - (i + 1)) = omega arith in ap (λ k. replicate k a) e
-
--- all of them, before the first is dealt
-pub all-there : {A : Type 0} (n m : ℕ) (a : A) → n ≡ m → 0 < m → replicate n a ≡ replicate (suc (m - 1)) a
-all-there n m a same some = let e : n ≡ suc (m - 1) = omega arith in ap (λ k. replicate k a) e
-
--- the last one is left
-pub last-left : {A : Type 0} (n i : ℕ) (a : A) → n ≤ i → replicate (suc (n - i)) a ≡ a ∷ []
-last-left n i a end = let e : n - i ≡ 0 = omega arith in ap (λ k. replicate (suc k) a) e
+-- A table's seats, of which all before `next` but the first are dealt: the rest has a sheet for each of the others
+pub record Dealt {S T : Type 0} (blank : T) (new : S) (at : TableId) (seats next : ℕ) (rest : Seat (Unit {0}) (List T)) (len capacity : ℕ) (items : List S) : Type 0 where
+  pub table : rest.table_id ≡ at
+  pub sheets : rest.me.0 ≡ replicate (suc (seats - next)) blank
+  pub bare : rest.me.1 ≡ []
+  pub counted : len + 1 ≡ next
+  pub room : seats ≤ capacity
+  pub all : All (λ s. s ≡ new) items
 
 -- one sheet is the first
 pub only-first : {A : Type 0} (blank a : A) (v : List A) → v ≡ a ∷ [] → v ≡ first_or blank v ∷ []
 only-first blank a v e = e ∙ ap (λ w. first_or blank w ∷ []) (sym e)
 
--- nothing was dealt yet
-pub none-yet : {A : Type 0} (P : A → Type 0) (xs : List A) → xs ≡ [] → All P xs
-none-yet P xs e = subst (All P) (sym e) (λ k d l. absurd (omega arith))
+-- a seat of one sheet still is one after a step that takes nothing
+pub still-single : {A : Type 0} (blank a : A) (v : List A) (now before : List (ℕ × Unit {0})) → v ≡ a ∷ [] → now ≡ before → before ≡ []
+    → (v ≡ first_or blank v ∷ []) × (now ≡ [])
+still-single blank a v now before one same bare = (only-first blank a v one, same ∙ bare)
 
--- there is room for one more
-pub room-left : (len i seats capacity : ℕ) → len + 1 ≡ i → i ≤ seats → seats ≤ capacity → len < capacity
-room-left len i seats capacity e l room = omega arith
+module _ {S T : Type 0} (blank : T) (new : S) (at : TableId) (seats next : ℕ) (rest : Seat (Unit {0}) (List T)) (len capacity : ℕ) (items : List S) where
+  -- nothing was dealt yet
+  pub deals-none : rest.table_id ≡ at → (n : ℕ) → n ≡ seats → 0 < seats → rest.me.0 ≡ replicate n blank → rest.me.1 ≡ []
+      → len ≡ 0 → next ≡ 1 → seats ≤ capacity → items ≡ [] → Dealt blank new at seats next rest len capacity items
+  deals-none table n is some sheets bare none first room empty =
+      let e : n ≡ suc (seats - next) = omega arith in record {
+        table = table;
+        sheets = sheets ∙ ap (λ k. replicate k blank) e;
+        bare = bare;
+        counted = omega arith;
+        room = room;
+        all = subst (All (λ s. s ≡ new)) (sym empty) (λ k d l. absurd (omega arith));
+      }
 
-pub all-dealt : (now len i seats : ℕ) → now ≡ len + 1 → len + 1 ≡ i → i ≤ seats → seats ≤ i → now ≡ seats
-all-dealt now len i seats p e l end = omega arith
+  module _ (so_far : Dealt blank new at seats next rest len capacity items) where
+    -- there is room for one more
+    pub room-left : next ≤ seats → len < capacity
+    room-left l = let n = so_far.counted in let room = so_far.room in omega arith
 
--- one more than 32 bits hold
-pub one-more : (n : ℕ) → n < 4294967296 → Fits w64 (n + 1)
-one-more n low = search rules
+    -- the first sheet of the rest is blank, and in the end it is the only one
+    pub first-blank : (v : List T) → v ≡ take 1 rest.me.0 → v ≡ blank ∷ []
+    first-blank v e = e ∙ ap (take 1) so_far.sheets
 
-pub words-of : (words length len slots first key : ℕ) → words ≡ length → length ≡ len → len ≡ slots + 1 → first ≡ slots → key ≡ first → words ≡ key + 1
-words-of words length len slots first key a b e f g = omega arith
+    pub last-blank : seats ≤ next → rest.me.0 ≡ blank ∷ []
+    last-blank end = let e : seats - next ≡ 0 = omega arith in so_far.sheets ∙ ap (λ k. replicate (suc k) blank) e
+
+    -- one more is dealt
+    pub deals-one : next < seats → (dealt rest' : Seat (Unit {0}) (List T)) (len' capacity' : ℕ) (items' : List S) (seat : S)
+        → dealt.table_id ≡ rest.table_id → dealt.me.0 ≡ take 1 rest.me.0 → (dealt.table_id ≡ at → dealt.me.0 ≡ blank ∷ [] → seat ≡ new)
+        → rest'.table_id ≡ rest.table_id → rest'.me.0 ≡ drop 1 rest.me.0 → rest'.me.1 ≡ rest.me.1
+        → len' ≡ len + 1 → (seats ≤ capacity → seats ≤ capacity') → items' ≡ items ++ seat ∷ []
+        → Dealt blank new at seats (next + 1) rest' len' capacity' items'
+    deals-one more dealt rest' len' capacity' items' seat its first is same less carried longer room pushed =
+        let e : seats - next ≡ suc (seats - (next + 1)) = omega arith in
+        let n = so_far.counted in
+        let new_is = is (its ∙ so_far.table) (first-blank dealt.me.0 first) in record {
+          table = same ∙ so_far.table;
+          sheets = less ∙ (ap (drop 1) so_far.sheets ∙ ap (λ k. replicate k blank) e);
+          bare = carried ∙ so_far.bare;
+          counted = omega arith;
+          room = room so_far.room;
+          all = subst (All (λ s. s ≡ new)) (sym pushed) (All-push (λ s. s ≡ new) items seat so_far.all new_is);
+        }
+
+    -- the rest is the last
+    pub deals-last : next ≤ seats → seats ≤ next → (len' : ℕ) (items' : List S) (seat : S) → len' ≡ len + 1 → items' ≡ items ++ seat ∷ [] → seat ≡ new
+        → (len' ≡ seats) × All (λ s. s ≡ new) items'
+    deals-last l end len' items' seat longer pushed is =
+        let n = so_far.counted in (omega arith, subst (All (λ s. s ≡ new)) (sym pushed) (All-push (λ s. s ≡ new) items seat so_far.all is))

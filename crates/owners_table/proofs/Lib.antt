@@ -5,6 +5,7 @@ pub mod Dealing
 pub mod Joining
 pub mod Holding
 pub mod OwningSteps
+pub mod SeatLemmas
 pub mod OwningLaw
 pub mod OwningStart
 pub mod OwningEnd

@@ -48,13 +48,24 @@ word-some h k w l = grind (arith, nat_tests)
 word-other : (slot : ℕ) (g : ℕ → ℕ) (k w : ℕ) → k ≢ slot → weigh_word (only slot g) k w ≡ 0
 word-other slot g k w e = let o = only-other slot g k w e in grind (arith, nat_tests)
 
--- one word changes
-pub words-change : (h : ℕ → ℕ → ℕ) (k : ℕ) (ws : List ℕ) (i x : ℕ) → i < length ws
-    → weigh_words h k (set ws i x) + weigh_word h (k + i) (get_or ws i 0) ≡ weigh_words h k ws + weigh_word h (k + i) x
-words-change h k [] i x l = absurd (omega arith)
-words-change h k (w ∷ ws) zero x l = let e : k + 0 ≡ k = omega arith in rw e (omega arith)
-words-change h k (w ∷ ws) (suc i) x l =
-    let e : suc k + i ≡ k + suc i = omega arith in let r = words-change h (suc k) ws i x (omega arith) in let r' = rw e at r in omega (arith, r')
+-- one word changes, of words that weigh f each, and together what they add up to
+change : (f : ℕ → ℕ → ℕ) (all : ℕ → List ℕ → ℕ) → ((k w : ℕ) (ws : List ℕ) → all k (w ∷ ws) ≡ f k w + all (suc k) ws)
+    → (k : ℕ) (ws : List ℕ) (i x : ℕ) → i < length ws → all k (set ws i x) + f (k + i) (get_or ws i 0) ≡ all k ws + f (k + i) x
+change f all adds k [] i x l = absurd (omega arith)
+change f all adds k (w ∷ ws) zero x l =
+    let e : k + 0 ≡ k = omega arith in let a = adds k w ws in let b = adds k x ws in rw e (omega (arith, a, b))
+change f all adds k (w ∷ ws) (suc i) x l =
+    let e : suc k + i ≡ k + suc i = omega arith in
+    let r = change f all adds (suc k) ws i x (omega arith) in
+    let r' = rw e at r in
+    let a = adds k w ws in
+    let b = adds k w (set ws i x) in
+    omega (arith, r', a, b)
+
+pub words-change : (h : ℕ → ℕ → ℕ) (ws : List ℕ) (i x : ℕ) → i < length ws
+    → weigh_words h 0 (set ws i x) + weigh_word h i (get_or ws i 0) ≡ weigh_words h 0 ws + weigh_word h i x
+words-change h ws i x l =
+    let e : 0 + i ≡ i = omega arith in let c = change (weigh_word h) (weigh_words h) (λ k w ws. refl) 0 ws i x l in rw e at c
 
 pub shelf-none : (h : ℕ → ℕ → ℕ) (k w : ℕ) → 4096 ≤ w → weigh_shelf h k w ≡ 0
 shelf-none h k w l = grind (arith, nat_tests)
@@ -65,13 +76,10 @@ shelf-free h k = grind (arith, nat_tests)
 pub shelf-some : (h : ℕ → ℕ → ℕ) (k w : ℕ) → 0 < w → w < 4096 → weigh_shelf h k w ≡ h k w
 shelf-some h k w p l = grind (arith, nat_tests)
 
--- one word changes
-pub shelves-change : (h : ℕ → ℕ → ℕ) (k : ℕ) (ws : List ℕ) (i x : ℕ) → i < length ws
-    → weigh_shelves h k (set ws i x) + weigh_shelf h (k + i) (get_or ws i 0) ≡ weigh_shelves h k ws + weigh_shelf h (k + i) x
-shelves-change h k [] i x l = absurd (omega arith)
-shelves-change h k (w ∷ ws) zero x l = let e : k + 0 ≡ k = omega arith in rw e (omega arith)
-shelves-change h k (w ∷ ws) (suc i) x l =
-    let e : suc k + i ≡ k + suc i = omega arith in let r = shelves-change h (suc k) ws i x (omega arith) in let r' = rw e at r in omega (arith, r')
+pub shelves-change : (h : ℕ → ℕ → ℕ) (ws : List ℕ) (i x : ℕ) → i < length ws
+    → weigh_shelves h 0 (set ws i x) + weigh_shelf h i (get_or ws i 0) ≡ weigh_shelves h 0 ws + weigh_shelf h i x
+shelves-change h ws i x l =
+    let e : 0 + i ≡ i = omega arith in let c = change (weigh_shelf h) (weigh_shelves h) (λ k w ws. refl) 0 ws i x l in rw e at c
 
 words-past : (slot : ℕ) (g : ℕ → ℕ) (k : ℕ) (ws : List ℕ) → slot < k → weigh_words (only slot g) k ws ≡ 0
 words-past slot g k [] l = refl

@@ -15,7 +15,8 @@ use Rattle.owners_table.specs.Place.{place}
 use Rattle.owners_table.proofs.PlaceLemmas.{slot_at-place, slot-inside}
 use Rattle.owners_table.proofs.Sums.{sum_by-none, sum_by-member, sum_by-whole}
 use Rattle.owners_table.proofs.Joining.{sum_by-joined, length-joined}
-use Rattle.owners_table.proofs.Lists.{only, once, differs, differs-same, words-of_run, words-of_none, words-outside, words-slot, weigh-flat_map, word_at-same, word_at-none}
+use Rattle.owners_table.proofs.Lists.{only, once, differs, differs-same, words-of_run, words-of_none, words-outside, words-slot, weigh-flat_map}
+use Rattle.owners_table.proofs.Lists.{word_at-same, word_at-none}
 use Rattle.owners_table.proofs.OwningSteps.{View, listed}
 use Rattle.owners_table.proofs.OwningLaw.{entries-words}
 

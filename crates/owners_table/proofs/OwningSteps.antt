@@ -1,5 +1,6 @@
 -- Each step keeps the rule of the owners.
-use Rattle.std.proofs.Common.{◌≡◌, ◌≢◌, ℕ, ◌+◌, ◌<◌, ◌≤◌, Bool, eqb, List, [], ◌∷◌, ◌++◌, length, get_or, set, take, drop, sym, refl, ap, ◌∙◌, subst, arith, length-set, get_or-set_same, get_or-set_other, eq-eqb, ne_eqb}
+use Rattle.std.proofs.Common.{◌≡◌, ◌≢◌, ℕ, ◌+◌, ◌<◌, ◌≤◌, Bool, eqb, List, [], ◌∷◌, ◌++◌, length, get_or, set, take, drop, sym, refl, ap, ◌∙◌}
+use Rattle.std.proofs.Common.{subst, arith, length-set, get_or-set_same, get_or-set_other, eq-eqb, ne_eqb}
 use Rattle.std.specs.Prelude.{if◌then◌else◌, sum_by}
 use Rattle.std.proofs.lemmas.List.Sums.{sum_by-cons, sum_by-append}
 use mathlib.Core.Logic.{dite}
@@ -16,12 +17,16 @@ use Rattle.owners_table.specs.declared.mark.Owner.TheVariants.{Run, Shelf}
 use Rattle.owners_table.specs.declared.mark.TheConstants.{SHELVES}
 use Rattle.owners_table.specs.declared.owning.OwnerSheet.{OwnerSheet}
 use Rattle.owners_table.specs.Marking.{IsMarkWord}
-use Rattle.owners_table.specs.Owning.{SeatView, seat_view, IsSlotWord, IsOwn, owner_word, Owned, Holds, word_at, without, weigh, by_place, weigh_word, weigh_words, weigh_shelf, blank, gained, after_claim, after_release, after_shelve, after_fetch, claimed, released, was_shelved, fetched, looked}
+use Rattle.owners_table.specs.Owning.{SeatView, seat_view, IsSlotWord, IsOwn, owner_word, Owned, Holds, word_at, without, weigh, by_place}
+use Rattle.owners_table.specs.Owning.{weigh_word, weigh_words, weigh_shelf, blank, gained, after_claim, after_release, after_shelve, after_fetch}
+use Rattle.owners_table.specs.Owning.{claimed, released, was_shelved, fetched, looked}
 use Rattle.owners_table.specs.Place.{place, slot_at}
 use Rattle.owners_table.specs.Sheets.{first_or, sheet_of}
 use Rattle.owners_table.proofs.PlaceLemmas.{inside}
 use Rattle.owners_table.proofs.Sums.{sum_by-change, sum_by-member, sum_by-split, sum_by-join, sum-is_additive, length-is_additive}
-use Rattle.owners_table.proofs.Lists.{only, once, differs, differs-same, word-none, word-some, words-change, shelf-none, shelf-free, shelf-some, shelves-change, words-of_run, words-of_none, words-once, words-place, words-slot, weigh-without, word_at-same}
+use Rattle.owners_table.proofs.Lists.{only, once, differs, differs-same, word-none, word-some, words-change, shelf-none, shelf-free, shelf-some}
+use Rattle.owners_table.proofs.Lists.{shelves-change, words-of_run, words-of_none, words-once, words-place, words-slot, weigh-without}
+use Rattle.owners_table.proofs.Lists.{word_at-same}
 
 abbrev pub View : Type 0
 View = List OwnerSheet
@@ -42,37 +47,29 @@ taken h t = weigh h t.got
 single : (f : OwnerSheet → ℕ) (t : OwnerSheet) → sum_by f (t ∷ []) ≡ f t
 single f t = omega arith
 
--- a step that changes the word of a slot, at a place, and the view of one seat
-placed : (slots seats : ℕ) (st : Table) → Owned slots seats st → (id : ℕ) (v w : View) (p x : ℕ) (carried : List (ℕ × Unit {0}))
-    → get_elem? st.views id ≡ some v → slot_at p < slots → IsSlotWord x → length w ≡ length v
-    → ((h : ℕ → ℕ → ℕ) → sum_by (listed h) w + weigh_word h (slot_at p) (get_or st.words p 0) ≡ sum_by (listed h) v + weigh_word h (slot_at p) x)
-    → ((h : ℕ → ℕ → ℕ) → sum_by (put h) w + weigh_shelf h (slot_at p) (get_or st.words p 0) + sum_by (taken h) v ≡ sum_by (put h) v + weigh_shelf h (slot_at p) x + sum_by (taken h) w)
-    → Owned slots seats (stepped st p x id carried w keeps)
-placed slots seats st r id v w p x carried at low ok as_many moved passed =
+-- a step that changes the word of a slot, at a place, and the one sheet of a seat
+placed : (slots seats : ℕ) (st : Table) → Owned slots seats st → (id : ℕ) (t u : OwnerSheet) (p x : ℕ) (carried : List (ℕ × Unit {0}))
+    → get_elem? st.views id ≡ some (t ∷ []) → slot_at p < slots → IsSlotWord x
+    → ((h : ℕ → ℕ → ℕ) → weigh h u.held + weigh_word h (slot_at p) (get_or st.words p 0) ≡ weigh h t.held + weigh_word h (slot_at p) x)
+    → ((h : ℕ → ℕ → ℕ) → weigh h u.shelved + weigh_shelf h (slot_at p) (get_or st.words p 0) + weigh h t.got ≡ weigh h t.shelved + weigh_shelf h (slot_at p) x + weigh h u.got)
+    → Owned slots seats (stepped st p x id carried (u ∷ []) keeps)
+placed slots seats st r id t u p x carried at low ok moved passed =
     let wide = r.wide in let there = inside slots p low in let within : p < length st.words = omega (arith, wide, there) in record {
       wide = length-set st.words p x ∙ r.wide;
       spare = λ k past. get_or-set_other st.words p k x 0 (λ e. let same = ap slot_at e in omega (arith, same, past, low)) ∙ r.spare k past;
       words = λ k. dite (ℕ_discrete k p)
           (λ e. subst IsSlotWord (sym (ap (λ (j : ℕ). get_or (set st.words p x) j 0) e ∙ get_or-set_same st.words p x 0 within)) ok)
           (λ ne. subst IsSlotWord (sym (get_or-set_other st.words p k x 0 ne)) (r.words k));
-      sheets = let c = sum_by-change (λ (u : View). length u) st.views id v w at in let q = r.sheets in omega (arith, c, q, as_many);
+      sheets = let c = sum_by-change (λ (v : View). length v) st.views id (t ∷ []) (u ∷ []) at in let q = r.sheets in omega (arith, c, q);
       listed = λ h.
-          let c = sum_by-change (sum_by (listed h)) st.views id v w at in
-          let q = r.listed h in
-          let m = moved h in
-          let s = words-change (by_place h) 0 st.words p x within in
-          let z : 0 + p ≡ p = omega arith in
-          let s' = rw z at s in
-          omega (arith, c, q, m, s');
+          let c = sum_by-change (sum_by (listed h)) st.views id (t ∷ []) (u ∷ []) at in
+          let s = words-change (by_place h) st.words p x within in
+          omega (arith, c, s, r.listed h, moved h, single (listed h) t, single (listed h) u);
       shelved = λ h.
-          let c = sum_by-change (sum_by (put h)) st.views id v w at in
-          let d = sum_by-change (sum_by (taken h)) st.views id v w at in
-          let q = r.shelved h in
-          let m = passed h in
-          let s = shelves-change (by_place h) 0 st.words p x within in
-          let z : 0 + p ≡ p = omega arith in
-          let s' = rw z at s in
-          omega (arith, c, d, q, m, s');
+          let c = sum_by-change (sum_by (put h)) st.views id (t ∷ []) (u ∷ []) at in
+          let d = sum_by-change (sum_by (taken h)) st.views id (t ∷ []) (u ∷ []) at in
+          let s = shelves-change (by_place h) st.words p x within in
+          omega (arith, c, d, s, r.shelved h, passed h, single (put h) t, single (put h) u, single (taken h) t, single (taken h) u);
     }
 
 -- what a seat holds weighs no more than the words
@@ -120,39 +117,22 @@ takes : (slots seats : ℕ) (st : Table) → Owned slots seats st
 takes slots seats st r id t u p from word carried here inside low run is stays won lost =
     let n : ℕ = get_or st.words p 0 in
     exchanged n from word (λ z. Owned slots seats (stepped st p z id carried (u ∷ []) keeps))
-    (λ found. placed slots seats st r id (t ∷ []) (u ∷ []) p word carried here inside (λ _. run) refl
+    (λ found. placed slots seats st r id t u p word carried here inside (λ _. run)
     (λ h.
     let a = word-none h (slot_at p) n (omega arith) in
     let b = word-some h (slot_at p) word run.0 in
     let c = ap (weigh h) (is ∙ held-won (slot_at p) from word n t.held found) in
     let d = sum_by-cons (λ e. h e.0 e.1) (slot_at p, word) t.held in
-    let e = single (listed h) t in
-    let f = single (listed h) u in
     omega arith)
     (λ h.
     let a = ap (weigh_shelf h (slot_at p)) found in
     let b = shelf-none h (slot_at p) word run.0 in
     let c = won found h in
     let d = ap (weigh h) stays in
-    let e = single (put h) t in
-    let f = single (put h) u in
-    let g = single (taken h) t in
-    let i = single (taken h) u in
     omega arith))
-    (λ other. placed slots seats st r id (t ∷ []) (u ∷ []) p n carried here inside (r.words p) refl
-    (λ h.
-    let c = ap (weigh h) (is ∙ held-lost (slot_at p) from word n t.held other) in
-    let e = single (listed h) t in
-    let f = single (listed h) u in
-    omega arith)
-    (λ h.
-    let c = ap (weigh h) (lost other) in
-    let d = ap (weigh h) stays in
-    let e = single (put h) t in
-    let f = single (put h) u in
-    let g = single (taken h) t in
-    let i = single (taken h) u in
-    omega arith))
+    (λ other. placed slots seats st r id t u p n carried here inside (r.words p)
+    (λ h. let c = ap (weigh h) (is ∙ held-lost (slot_at p) from word n t.held other) in omega arith)
+    (λ h. let c = ap (weigh h) (lost other) in let d = ap (weigh h) stays in omega arith))
 
 -- an exchange to a word that is no run's, after which the seat's one sheet lacks the slot that it held
 leaves : (slots seats : ℕ) (st : Table) → Owned slots seats st
@@ -165,25 +145,15 @@ leaves : (slots seats : ℕ) (st : Table) → Owned slots seats st
 leaves slots seats st r id t u p word carried here inside low has is stays adds =
     let n : ℕ = get_or st.words p 0 in
     let m = mine slots seats st r id t p here inside has in
-    placed slots seats st r id (t ∷ []) (u ∷ []) p word carried here inside (λ l. absurd (omega arith)) refl
+    placed slots seats st r id t u p word carried here inside (λ l. absurd (omega arith))
     (λ h.
     let a = word-some h (slot_at p) n m.0 in
     let z = word-none h (slot_at p) word (omega arith) in
     let e = weigh-without h (slot_at p) t.held has in
     let f = ap (h (slot_at p)) m.1 in
     let g = ap (weigh h) is in
-    let c = single (listed h) t in
-    let d = single (listed h) u in
     omega arith)
-    (λ h.
-    let a = shelf-none h (slot_at p) n m.0 in
-    let c = adds h in
-    let d = ap (weigh h) stays in
-    let e = single (put h) t in
-    let f = single (put h) u in
-    let g = single (taken h) t in
-    let i = single (taken h) u in
-    omega arith)
+    (λ h. let a = shelf-none h (slot_at p) n m.0 in let c = adds h in let d = ap (weigh h) stays in omega arith)
 
 -- what a claim or a fetch finds where the seat's one sheet has the slot
 own : (slots seats : ℕ) (st : Table) → Owned slots seats st → (id : ℕ) (t : OwnerSheet) (p : ℕ)
@@ -253,11 +223,6 @@ shelves slots seats homes id me p word t one inside some_shelf low has st r _ at
   (refl, λ u e. let same : t ≡ u = ap (first_or blank) (sym one ∙ e) in ap (λ (x : OwnerSheet). after_shelve (slot_at p) word x ∷ []) same),
 )
 
--- an owner's word is not that of a free slot
-pub owner-there : (owner : Owner) (w : ℕ) → owner_word owner ≡ w → w ≢ 0
-owner-there (Run mark) w is = λ free. omega arith
-owner-there (Shelf shelf) w is = λ free. omega arith
-
 pub splits : (slots seats id : ℕ) (v : View) → Splits (Owned slots seats) id v (drop 1 v) (take 1 v)
 splits slots seats id v st r at = record {
   wide = r.wide;
@@ -294,28 +259,4 @@ looks slots seats homes id me i st r _ at _ = (
         let f = words-slot slot once st.words in
         omega (arith, a, c, s, b, f, has, too),
   ),
-)
-
--- ---- what a seat's one sheet shows after a claim or a fetch
-
-pub counts-try : (v : View) (t : OwnerSheet) (p : Seat (Unit {0}) View) (old : SeatView) → v ≡ t ∷ []
-    → t.tries ≡ (sheet_of blank p).tries + 1 → seat_view p ≡ old
-    → (first_or blank v).tries ≡ old.tries + 1
-counts-try v t p old e more seen = ap (λ (w : View). (first_or blank w).tries) e ∙ (more ∙ ap (λ (s : SeatView). s.tries + 1) seen)
-
-pub claim-rest : (slot word found : ℕ) (v : View) (p : Seat (Unit {0}) View) (old : SeatView)
-    → v ≡ after_claim slot word found (sheet_of blank p) ∷ [] → seat_view p ≡ old
-    → ((first_or blank v).fetches ≡ old.fetches) × ((first_or blank v).shelved ≡ old.shelved) × ((first_or blank v).got ≡ old.got)
-claim-rest slot word found v p old e seen = (
-  ap (λ (w : View). (first_or blank w).fetches) e ∙ ap (λ (s : SeatView). s.fetches) seen,
-  ap (λ (w : View). (first_or blank w).shelved) e ∙ ap (λ (s : SeatView). s.shelved) seen,
-  ap (λ (w : View). (first_or blank w).got) e ∙ ap (λ (s : SeatView). s.got) seen,
-)
-
-pub fetch-rest : (slot from word found : ℕ) (v : View) (p : Seat (Unit {0}) View) (old : SeatView)
-    → v ≡ after_fetch slot from word found (sheet_of blank p) ∷ [] → seat_view p ≡ old
-    → ((first_or blank v).notes ≡ old.notes) × ((first_or blank v).shelved ≡ old.shelved)
-fetch-rest slot from word found v p old e seen = (
-  ap (λ (w : View). (first_or blank w).notes) e ∙ ap (λ (s : SeatView). s.notes) seen,
-  ap (λ (w : View). (first_or blank w).shelved) e ∙ ap (λ (s : SeatView). s.shelved) seen,
 )

@@ -1,7 +1,8 @@
 -- Who owns which slot. The word of a slot is 0 where the slot is free, one more than a shelf's number where that shelf owns it, and
 -- the word of a mark where a run owns it; words below `WORDS_OF_A_RUN` are no run's.
 -- What a seat holds, what its claims and fetches found, and what it shelved, are lists of entries: a slot with a word.
-use Rattle.std.specs.Prelude.{◌≡◌, ◌≢◌, ℕ, suc, ◌+◌, ◌<◌, ◌≤◌, ◌==◌, nat_lt, if◌then◌else◌, List, [], ◌∷◌, ◌++◌, length, slice_index, sum_by, count_by, filter, flat_map, Option, Some, None}
+use Rattle.std.specs.Prelude.{◌≡◌, ◌≢◌, ℕ, suc, ◌+◌, ◌<◌, ◌≤◌, ◌==◌, nat_lt, if◌then◌else◌, List, [], ◌∷◌, ◌++◌, length, slice_index, sum_by}
+use Rattle.std.specs.Prelude.{count_by, filter, flat_map, Option, Some, None}
 use Rattle.atomic_table.specs.Table.{State, Me, Step}
 use Rattle.atomic_table.specs.Seated.{TableId}
 use Rattle.atomic_table.specs.declared.shared.Seat.{Seat}

@@ -1,5 +1,6 @@
 -- Pages that come and go.
-use Rattle.std.proofs.Common.{map, ◌≡◌, ℕ, zero, suc, ◌+◌, ◌*◌, ◌/◌, ◌%◌, ◌<◌, ◌≤◌, ◌==◌, if◌then◌else◌, Bool, true, false, cond, List, [], ◌∷◌, ◌++◌, IsTrue, ◌↔◌, length, get_or, set, replicate, Some, is_some, refl, sym, ap, subst, ◌∙◌, arith, inl, inr, ◌⊎◌}
+use Rattle.std.proofs.Common.{map, ◌≡◌, ℕ, zero, suc, ◌+◌, ◌*◌, ◌/◌, ◌%◌, ◌<◌, ◌≤◌, ◌==◌, if◌then◌else◌, Bool, true, false, cond, List, [], ◌∷◌}
+use Rattle.std.proofs.Common.{◌++◌, IsTrue, ◌↔◌, length, get_or, set, replicate, Some, is_some, refl, sym, ap, subst, ◌∙◌, arith, inl, inr, ◌⊎◌}
 use Rattle.std.specs.Prelude.{slice_get, slice_index, Option, None, IsSome, IfNone}
 use Rattle.std.specs.List.{All, AllWithin}
 use Rattle.std.proofs.lemmas.Bool.{cases_lt, false≢true}
@@ -16,7 +17,8 @@ use Rattle.slab_layer.specs.declared.kind.Kind.{Ghosts}
 use Rattle.slab_layer.specs.declared.slab.Slab.{Slab}
 use Rattle.slab_layer.specs.SlabTable.{places_of, page_of, pages_in, IsSlabTable, IsBusy}
 use Rattle.slab_layer.proofs.Selecting.{times-cons}
-use Rattle.slab_layer.proofs.Changes.{places_read, partial_after, stack-more, stack-less, number_is, outs_in-home, outs_in-homes, has_home-homes, added, removed}
+use Rattle.slab_layer.proofs.Changes.{places_read, partial_after, stack-more, stack-less, number_is, outs_in-home, outs_in-homes, has_home-homes}
+use Rattle.slab_layer.proofs.Changes.{added, removed}
 
 first_place : (pages : Pages) (p : ℕ) → place_of pages (p * 256) ≡ slice_get (get_or pages p []) 0
 first_place pages p =

@@ -1,7 +1,8 @@
 -- Slabs as their callers see them: a finite map from slots to home or out. It is kept as a list of pages, by
 -- their number, each with the places of its objects, by their index. A page that isn't had has none. A slot's
 -- number is page * SLOTS_OF_A_PAGE + index.
-use Rattle.std.specs.Prelude.{◌≡◌, ◌≢◌, ◌↔◌, ℕ, ◌+◌, ◌*◌, ◌/◌, ◌%◌, ◌<◌, ◌≤◌, Bool, true, false, cond, List, [], ◌∷◌, slice_get, slice_index_or, Option, Some, None, IsSome}
+use Rattle.std.specs.Prelude.{◌≡◌, ◌≢◌, ◌↔◌, ℕ, ◌+◌, ◌*◌, ◌/◌, ◌%◌, ◌<◌, ◌≤◌, Bool, true, false, cond, List, [], ◌∷◌, slice_get, slice_index_or}
+use Rattle.std.specs.Prelude.{Option, Some, None, IsSome}
 use Rattle.std.specs.List.{list_any}
 use Rattle.slab_layer.specs.declared.kind.TheConstants.{SLOTS_OF_A_PAGE}
 use Rattle.slab_layer.specs.declared.place.Place.{Place}

@@ -3,7 +3,7 @@
 ghost use Rattle.std.specs.Prelude.{◌≡◌, ℕ, ◌/◌, OnOk, OnErr, Err};
 ghost use Rattle.slab_layer.specs.Growth.{GrowsBy, KeepsOut};
 ghost use Rattle.slab_layer.specs.Slots.{Has, IsHome, out_count};
-ghost use Rattle.slab_layer.specs.declared.growth.GrowFault.TheVariants.{NoPage};
+ghost use Rattle.slab_layer.specs.declared.growth.GrowFault.TheVariants.{NoMemory, NoPage};
 ghost use Rattle.slab_layer.specs.declared.kind.TheConstants.{PAGE_BYTES};
 ghost use Rattle.vmem_arena.specs.Spans.{AreFree};
 
@@ -32,6 +32,7 @@ impl<K: Kind> Slabs<K> {
         ensures counted { OnOk result (out_count self.new ≡ out_count self.old) }
         ensures no_page { result ≡ Err NoPage →
             ((page : ℕ) → AreFree arena.old page 1 → Has self.old page → ⊥) → (page : ℕ) → AreFree arena.old page 1 → ⊥ }
+        ensures memory { result ≡ Err NoMemory → (page : ℕ) × AreFree arena.old page 1 }
         ensures unchanged { OnErr result ((self.new ≡ self.old) × KeepsOut arena.old arena.new) }
     {
         let Ok(span) = arena.take(1) else {

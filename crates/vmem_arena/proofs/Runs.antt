@@ -89,4 +89,6 @@ run_le (t ∷ ts) at zero len first n most to out h end fits low free = elim (ca
   | inl here ↦ run_here t.is_out t ts at first n most to refl h.3 h.1 (omega arith) (fits 0) (omega arith) here free
   | inr later ↦ run_le ts (suc at) (t.len - 1) t.len first n most to t.is_out h.3 (omega arith) (λ i. fits (suc i)) (omega (arith, h.1)) (λ page lo hi. ((free page lo hi).0, λ covers. (free page lo hi).1 (cover_later t.is_out (span at t.len) (outs (suc at) ts) page covers)))
 ]
-run_le (t ∷ ts) at (suc left) len first n most to out h end fits low free = run_le ts (suc at) left len first n most to out h.1 (omega arith) (λ i. fits (suc i)) (omega arith) (λ page lo hi. ((free page lo hi).0, λ covers. (free page lo hi).1 (cover_later t.is_out (span at t.len) (outs (suc at) ts) page covers)))
+run_le (t ∷ ts) at (suc left) len first n most to out h end fits low free = run_le ts (suc at) left len first n most to out h.1
+    (omega arith) (λ i. fits (suc i)) (omega arith) (λ page lo hi.
+    ((free page lo hi).0, λ covers. (free page lo hi).1 (cover_later t.is_out (span at t.len) (outs (suc at) ts) page covers)))

@@ -1,5 +1,6 @@
 -- The steps of the arena: the first table, a span taken, and one given back.
-use Rattle.std.proofs.Common.{◌≡◌, ℕ, zero, suc, ◌+◌, ◌-◌, ◌<◌, ◌≤◌, Bool, true, false, cond, inl, inr, List, [], ◌∷◌, length, set, replicate, refl, sym, ap, subst, ◌∙◌, arith}
+use Rattle.std.proofs.Common.{◌≡◌, ℕ, zero, suc, ◌+◌, ◌-◌, ◌<◌, ◌≤◌, Bool, true, false, cond, inl, inr, List, [], ◌∷◌, length, set, replicate}
+use Rattle.std.proofs.Common.{refl, sym, ap, subst, ◌∙◌, arith}
 use Rattle.std.specs.List.Sorted.{IsPermutation}
 use Rattle.std.proofs.lemmas.Bool.{false≢true, cases_lt, cases_eq}
 use Rattle.std.proofs.lemmas.List.{length-set, length-replicate, get_or-set_same, get_or-set_other, set-set}
@@ -10,7 +11,8 @@ use Rattle.vmem_arena.specs.Classes.{SameBut}
 use Rattle.vmem_arena.proofs.Tiling.{free_tag, out_tag, no_pages, extent, before_is, all_taken, part_taken, IsBelowOut, freed_apart, freed_joined}
 use Rattle.vmem_arena.proofs.Outs.{span, outs-before, outs-free, outs-without, outs-taken, outs-given}
 use Rattle.vmem_arena.proofs.Runs.{free_here, run_le}
-use Rattle.vmem_arena.proofs.Listing.{free_of, free-set_other, free-set_same, free-set_inside, free-before, tag-without, free-without_other, free-without_here, length-without, length-before}
+use Rattle.vmem_arena.proofs.Listing.{free_of, free-set_other, free-set_same, free-set_inside, free-before, tag-without, free-without_other}
+use Rattle.vmem_arena.proofs.Listing.{free-without_here, length-without, length-before}
 
 -- ---- what a free segment's length says
 free_is : (b : Bool) (n : ℕ) → 0 < cond b 0 n → (b ≡ false) × (n ≡ cond b 0 n)

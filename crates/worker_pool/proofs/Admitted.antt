@@ -1,5 +1,6 @@
 -- Where no fault is found, the jobs can be done.
-use Rattle.std.proofs.Common.{◌≡◌, ◌≤◌, ◌<◌, ◌+◌, ◌==◌, ◌||◌, not, nat_lt, if◌then◌else◌, cond, ℕ, zero, suc, Bool, true, false, Option, Some, None, All, List, [], ◌∷◌, length, position, slice_index_or, refl, sym, ap, ◌∙◌, arith}
+use Rattle.std.proofs.Common.{◌≡◌, ◌≤◌, ◌<◌, ◌+◌, ◌==◌, ◌||◌, not, nat_lt, if◌then◌else◌, cond, ℕ, zero, suc, Bool, true, false, Option, Some}
+use Rattle.std.proofs.Common.{None, All, List, [], ◌∷◌, length, position, slice_index_or, refl, sym, ap, ◌∙◌, arith}
 use Rattle.std.specs.List.{position_or_len}
 use Rattle.std.proofs.lemmas.Bool.Decides.{nat_tests}
 use Rattle.ebpf_verify.specs.Subject.{Subject}

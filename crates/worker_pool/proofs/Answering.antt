@@ -1,15 +1,12 @@
 -- What a worker answered, job by job and bundle by bundle.
 use Rattle.std.proofs.Common.{◌≡◌, ◌+◌, ℕ, All, List, [], ◌∷◌, ◌++◌, length, refl, sym, ap, subst, ◌∙◌, arith}
-use Rattle.std.specs.List.{sum_by}
 use Rattle.std.proofs.lemmas.List.Elements.{All-nil, All-push}
-use Rattle.std.proofs.lemmas.List.Sums.{sum_by-append}
 use Rattle.ebpf_verify.specs.Subject.{Subject}
 use Rattle.ebpf_machine.specs.declared.report.Report.{Report}
-use Rattle.ebpf_machine.specs.Whole.{granted, refused, fetched}
 use Rattle.worker_pool.specs.declared.hands.Tools.{Tools}
 use Rattle.job_list.specs.declared.jobs.Job.{Job}
 use Rattle.worker_pool.specs.Numbering.{Numbered, numbered}
-use Rattle.worker_pool.specs.Going.{AreAnswered, HasAnsweredAll, IsAnswered, IsUnanswered, none_answered}
+use Rattle.worker_pool.specs.Going.{AreAnswered, IsAnswered, IsUnanswered, none_answered}
 use Rattle.worker_pool.specs.Working.{Answers}
 use Rattle.worker_pool.proofs.NumberingLemmas.{numbered_more}
 use Rattle.worker_pool.proofs.Sums.{answered_more, answered_same}
@@ -36,22 +33,3 @@ module _ {L : Type 0} (programs : List Subject) (jobs : List Job) (job : ℕ) (f
       good = was.good;
       goes = answered_same _ _ _ (numbered job before) _ refl was.goes now.1;
     })
-
-more_all : (f : Numbered → ℕ) (start old new : ℕ) (before after made : List Numbered) → after ≡ before ++ made
-    → old ≡ start + sum_by f before → new ≡ old + sum_by f made → new ≡ start + sum_by f after
-more_all f start old new before after made is was now =
-    let sum = ap (sum_by f) is ∙ sum_by-append f before made in
-    omega (arith, sum, was, now)
-
--- several reports more
-pub answered_all : {L : Type 0} (first old new : Tools L) (before after made : List Numbered) → after ≡ before ++ made
-    → HasAnsweredAll first before old → HasAnsweredAll old made new → HasAnsweredAll first after new
-answered_all first old new before after made is was now = record {
-  table = now.table ∙ was.table;
-  notes = now.notes ∙ was.notes;
-  fetches = now.fetches ∙ was.fetches;
-  lost = now.lost ∙ was.lost;
-  granted_are = more_all (λ m. granted m.report.answers) _ _ _ before after made is was.granted_are now.granted_are;
-  refused_are = more_all (λ m. refused m.report.answers) _ _ _ before after made is was.refused_are now.refused_are;
-  fetched_are = more_all (λ m. fetched m.report.answers) _ _ _ before after made is was.fetched_are now.fetched_are;
-}

@@ -1,5 +1,6 @@
 -- A worker more is taken apart.
-use Rattle.std.proofs.Common.{◌≡◌, ◌≢◌, ◌⊎◌, inl, inr, ◌≤◌, ◌+◌, ◌*◌, ◌^◌, ℕ, Some, All, Any, List, [], ◌∷◌, ◌++◌, length, reverse, refl, sym, ap, subst, ◌∙◌, arith, length-append}
+use Rattle.std.proofs.Common.{◌≡◌, ◌≢◌, ◌⊎◌, inl, inr, ◌<◌, ◌≤◌, ◌+◌, ◌*◌, ◌^◌, ℕ, Some, All, Any, List, [], ◌∷◌, ◌++◌, length, reverse, refl, sym, ap}
+use Rattle.std.proofs.Common.{subst, ◌∙◌, arith, length-append}
 use Rattle.std.specs.Prelude.{sum_by}
 use Rattle.std.proofs.lemmas.List.{reverse-append, reverse-reverse, append_assoc, append-nil}
 use Rattle.std.proofs.lemmas.List.Elements.{All-push, All-nil}
@@ -50,6 +51,13 @@ module _ {L : Type 0} where
         let clashes_same : back.tools.clashes ≡ tools.clashes = ap (λ o. (tools_or o).clashes) same in
         let strays_same : back.tools.strays ≡ tools.strays = ap (λ o. (tools_or o).strays) same in
         (omega (arith, back.few.0, clashes_same), omega (arith, back.few.1, strays_same))
+
+    -- of 64 workers at most, the sums don't wrap
+    pub sums_fit : length all ≤ 64 → (told.clashes + tools.clashes < 2 ^ 64) × (told.strays + tools.strays < 2 ^ 64)
+    sums_fit few =
+        let done = done_are all left p told h in
+        let most : length h.done * 2 ^ 56 ≤ 64 * 2 ^ 56 = omega (arith, done, few) in
+        (omega (arith, few_more.0, most, h.few.0), omega (arith, few_more.1, most, h.few.1))
 
     split_more : all ≡ rest ++ reverse (h.done ++ w ∷ [])
     split_more =

@@ -10,10 +10,13 @@ use Rattle.worker_pool.specs.declared.each_kind.Hands.{Hands}
 use Rattle.worker_pool.specs.declared.each_kind.Stocks.{Stocks}
 use Rattle.worker_pool.specs.declared.each_kind.Supplies.{Supplies}
 use Rattle.worker_pool.specs.declared.outcome.ShelfTotals.{ShelfTotals}
-use Rattle.worker_pool.specs.EachKind.{AllAreEven, AllAreMadeOf, AllAreUnused, AreClosed, AreNone, AreOneMore, AreOpened, HaveHands, HaveMade, HavePlaces, HaveRoom, IsEven, all_allocs, all_frees, all_gets, all_nulls, all_puts, free_allocs, free_gets, free_nulls, hands_of, outs_of, unused_hands}
+use Rattle.worker_pool.specs.EachKind.{AllAreEven, AllAreMadeOf, AllAreUnused, AreClosed, AreNone, AreOneMore, AreOpened, HaveHands, HaveMade}
+use Rattle.worker_pool.specs.EachKind.{HavePlaces, HaveRoom, IsEven, all_allocs, all_frees, all_gets, all_nulls, all_puts, free_allocs, free_gets}
+use Rattle.worker_pool.specs.EachKind.{free_nulls, hands_of, outs_of, unused_hands}
 use Rattle.worker_pool.specs.Hands.{unused_pair}
 use Rattle.worker_pool.specs.Outcomes.{IsEvenShelf, IsEvenTotal, allocs_in, gets_in, left_in, nulls_in}
-use Rattle.worker_pool.proofs.Pairs.{even_pairs, even_shelf, even_total, has_hand, has_made, place_left, last_unused, made_more, one_even, rest_unused, room_before, same_room, sum_hands, sum_shelf_hands}
+use Rattle.worker_pool.proofs.Pairs.{even_pairs, even_shelf, even_total, has_hand, has_made, place_left, last_unused, made_more, one_even}
+use Rattle.worker_pool.proofs.Pairs.{rest_unused, room_before, same_room, sum_hands, sum_shelf_hands}
 use Rattle.worker_pool.proofs.Shares.{three_sums}
 
 all_three : {X : Type 0} (P : X → Type 0) (a b c : X) → P a → P b → P c → All P (a ∷ b ∷ c ∷ [])

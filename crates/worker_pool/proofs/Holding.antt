@@ -3,8 +3,9 @@ use Rattle.std.proofs.Common.{◌≡◌, ◌≢◌, ℕ, zero, suc, ◌+◌, ◌
 use Rattle.std.specs.Prelude.{if◌then◌else◌, ◌==◌, count_by}
 use Rattle.std.proofs.lemmas.Bool.Decides.{nat_tests}
 use Rattle.std.proofs.lemmas.List.Sums.{sum_by-cons}
-use Rattle.owners_table.specs.Owning.{Holds, without}
+use Rattle.owners_table.specs.Owning.{SeatView, Holds, without}
 use Rattle.owners_table.proofs.Lists.{weigh-without}
+use Rattle.worker_pool.specs.Claims.{lost}
 
 -- how many entries are of the slot
 abbrev pub count_of : ℕ → List (ℕ × ℕ) → ℕ
@@ -73,6 +74,20 @@ once_released s slot old new e is has once x =
     let n = ap (count_of x) is in
     let o = once x in
     omega arith
+
+-- what stays of a seat that gave a slot up, to a shelf or to all
+pub record IsReleased (old new : SeatView) : Type 0 where
+  pub table : new.table ≡ old.table
+  pub once : Once old.held → Once new.held
+  pub lost : lost new.notes ≡ lost old.notes
+
+pub released : (s slot : ℕ) (old new : SeatView) (shelved : List (ℕ × ℕ)) → new ≡ record old { held = without s old.held; shelved = shelved } → s ≡ slot
+    → Holds slot old.held → IsReleased old new
+released s slot old new shelved is same has = record {
+  table = ap (λ v. v.table) is;
+  once = once_released s slot old.held new.held same (ap (λ v. v.held) is) has;
+  lost = ap (λ v. lost v.notes) is;
+}
 
 pub once_same : (old new : List (ℕ × ℕ)) → new ≡ old → Once old → Once new
 once_same old new is once x = let n = ap (count_of x) is in let c = once x in omega arith

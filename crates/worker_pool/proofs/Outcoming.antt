@@ -1,5 +1,6 @@
 -- What comes of the jobs, from what all workers did and where the bundles were put.
-use Rattle.std.proofs.Common.{◌≡◌, ◌≤◌, ◌<◌, ◌+◌, ◌*◌, min, ℕ, Some, All, Contains, List, [], ◌∷◌, length, slice_get, slice_index_or, map, refl, sym, ap, subst, ◌∙◌, arith}
+use Rattle.std.proofs.Common.{◌≡◌, ◌≤◌, ◌<◌, ◌+◌, ◌*◌, min, ℕ, Some, All, Contains, List, [], ◌∷◌, length, slice_get, slice_index_or, map, refl}
+use Rattle.std.proofs.Common.{sym, ap, subst, ◌∙◌, arith}
 use Rattle.std.specs.Prelude.{sum_by, vec_len}
 use Rattle.std.specs.List.{flat_map}
 use Rattle.std.proofs.lemmas.List.{length-map}
@@ -23,7 +24,8 @@ use Rattle.worker_pool.specs.Numbering.{bundles_in, numbered, times_of, told_by,
 use Rattle.worker_pool.specs.declared.crew.Parts.{Parts}
 use Rattle.worker_pool.specs.declared.crew.Done.{Done}
 use Rattle.worker_pool.specs.declared.outcome.ShelfTotals.{ShelfTotals}
-use Rattle.worker_pool.specs.Outcomes.{IsOutcome, AreReportsFor, IsReportFor, IsEvenTotal, IsEvenShelf, allocs_in, nulls_in, gets_in, left_in, granted_in, refused_in, fetched_in, JobsOutcome}
+use Rattle.worker_pool.specs.Outcomes.{IsOutcome, AreReportsFor, IsReportFor, IsEvenTotal, IsEvenShelf, allocs_in, nulls_in, gets_in, left_in}
+use Rattle.worker_pool.specs.Outcomes.{granted_in, refused_in, fetched_in, JobsOutcome}
 use Rattle.job_list.specs.ReportLists.{Kept, all_in}
 use Rattle.worker_pool.specs.Places.{IsThere, bundles_of, counted, weight, weight_in, weight_of}
 use Rattle.worker_pool.specs.Serving.{AreServed, all_allocs, all_nulls, all_gets, reports_of}

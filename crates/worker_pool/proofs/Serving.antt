@@ -24,7 +24,8 @@ use Rattle.worker_pool.proofs.Bundles.{one_if}
 use Rattle.worker_pool.proofs.EachKind.{all_even, sum_allocs, sum_gets, sum_nulls}
 use Rattle.worker_pool.proofs.Flat.{all_flat, sum_flat}
 use Rattle.worker_pool.proofs.Turned.{sum_turned, sum_mapped, all_mapped, any_also, as_many}
-use Rattle.worker_pool.proofs.Shares.{sum_same, sum_two, sum_two_less, sum_grown, all_by_index, part_sum, part_all, part_any, part_len, drawn_by, passed_by, through_not_out}
+use Rattle.worker_pool.proofs.Shares.{sum_same, sum_two, sum_two_less, sum_grown, all_by_index, part_sum, part_all, part_any, part_len, drawn_by}
+use Rattle.worker_pool.proofs.Shares.{passed_by, through_not_out}
 
 module _ {L : Type 0} (programs : List Subject) (jobs : List Job) (o : OwnersView) (size : ℕ) (t : TicketsView) where
   abbrev allocs_in : Worker L → ℕ
@@ -110,26 +111,19 @@ module _ {L : Type 0} (programs : List Subject) (jobs : List Job) (o : OwnersVie
     pub is_back : IsBack after
     is_back = record { tools = d.new; tools_are = d.new_are; few = d.used.few }
 
+    -- what grew with what a worker used
+    grew : (total more : Tools L → ℕ) → total d.new ≡ total d.old + more d.new
+        → total (tools_in after) ≡ total (tools_in before) + more (tools_in after)
+    grew total more used = let new = ap total now_has in let old = ap total had in let m = ap more now_has in omega (arith, new, old, m, used)
+
     noted_grew : noted_in after ≡ noted_in before + allocs_in after
-    noted_grew =
-        let new = ap (λ (k : Tools L). length k.seat.notes) now_has in
-        let old = ap (λ (k : Tools L). length k.seat.notes) had in
-        let a = ap (λ (k : Tools L). all_allocs k.hands) now_has in
-        omega (arith, new, old, a, d.used.notes)
+    noted_grew = grew (λ k. length k.seat.notes) (λ k. all_allocs k.hands) d.used.notes
 
     fetches_grew : fetches_in after ≡ fetches_in before + gets_in after
-    fetches_grew =
-        let new = ap (λ (k : Tools L). length k.seat.fetches) now_has in
-        let old = ap (λ (k : Tools L). length k.seat.fetches) had in
-        let g = ap (λ (k : Tools L). all_gets k.hands) now_has in
-        omega (arith, new, old, g, d.used.fetches)
+    fetches_grew = grew (λ k. length k.seat.fetches) (λ k. all_gets k.hands) d.used.fetches
 
     lost_grew : lost_in after ≡ lost_in before + clashes_in after
-    lost_grew =
-        let new = ap (λ (k : Tools L). lost k.seat.notes) now_has in
-        let old = ap (λ (k : Tools L). lost k.seat.notes) had in
-        let k = ap (λ (k : Tools L). k.clashes) now_has in
-        omega (arith, new, old, k, d.used.lost)
+    lost_grew = grew (λ k. lost k.seat.notes) (λ k. k.clashes) d.used.lost
 
   module _ (olds news : List (Worker L)) (len : length news ≡ length olds) (fresh : All (IsFresh o t) olds)
       (done_each : AreDone programs jobs size t olds news) where

@@ -10,7 +10,8 @@ use Rattle.worker_pool.specs.declared.each_kind.Supplies.{Supplies}
 use Rattle.worker_pool.specs.declared.outcome.ShelfTotals.{ShelfTotals}
 use Rattle.worker_pool.specs.declared.supply.KindBlanks.{KindBlanks}
 use Rattle.worker_pool.specs.Books.{AreFor, AreWhole}
-use Rattle.worker_pool.specs.Hands.{AreEven, AreMadeOf, AreUnused, HasHand, HasPlace, HasRoom, IsEvenPair, IsNone, IsOneMore, allocs_by, gets_by, nulls_by, out_of, unused_pair}
+use Rattle.worker_pool.specs.Hands.{AreEven, AreMadeOf, AreUnused, HasHand, HasPlace, HasRoom, IsEvenPair, IsNone, IsOneMore, allocs_by, gets_by}
+use Rattle.worker_pool.specs.Hands.{nulls_by, out_of, unused_pair}
 use Rattle.worker_pool.specs.Outcomes.{IsIdle, noted_by, lost_by, fetches_by, left_in}
 use Rattle.worker_pool.specs.Supplies.{HasMade, IsClosed, IsOpened}
 

@@ -1,5 +1,6 @@
 -- The reports of bundles in the places of their bundles.
-use Rattle.std.specs.Prelude.{[], All, min, vec_len, ◌≡◌, ◌⊎◌, ◌+◌, ◌++◌, ◌<◌, ◌≤◌, ℕ, ◌==◌, if◌then◌else◌, List, Option, Some, None, Contains, length, slice_get, sum_by}
+use Rattle.std.specs.Prelude.{[], All, min, vec_len, ◌≡◌, ◌⊎◌, ◌+◌, ◌++◌, ◌<◌, ◌≤◌, ℕ, ◌==◌, if◌then◌else◌, List, Option, Some, None, Contains}
+use Rattle.std.specs.Prelude.{length, slice_get, sum_by}
 use Rattle.std.specs.List.{flat_map}
 use Rattle.ebpf_machine.specs.declared.report.Report.{Report}
 use Rattle.job_list.specs.ReportLists.{Kept}

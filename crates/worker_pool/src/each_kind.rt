@@ -18,6 +18,7 @@ use crate::outcome::ShelfTotals;
 use crate::stock::Stock;
 use crate::supply::{Closing, KindBlanks, Supply};
 use ebpf_object::{KindName, Object, Offer, kind_named};
+use ebpf_state::kinds::KINDS;
 use object_cache::{ArenaLock, Totals};
 use owners_table::owners::OwnerSeat;
 use slab_layer::{BlockKind, CellKind, RecordKind};
@@ -149,7 +150,7 @@ impl<L: Names> Supplies<L> {
         closing: &Closing<'_, R>,
         free: FreeHands<L>,
         seats: &mut Vec<OwnerSeat>,
-    ) -> ([ShelfTotals; 3], [Totals; 3])
+    ) -> ([ShelfTotals; KINDS], [Totals; KINDS])
         requires all { HaveMade self free }
         requires some { HaveHands free }
         requires seat { 0 < vec_len seats.old }

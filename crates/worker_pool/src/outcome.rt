@@ -1,5 +1,6 @@
 //! What jobs are run with, and what comes of them.
 
+use ebpf_state::kinds::KINDS;
 use ebpf_verify::verified::Verified;
 use job_list::Reports;
 use object_cache::Totals;
@@ -36,11 +37,11 @@ pub struct Outcome<R = Reports> {
     /// A report for each job, in the order of the jobs.
     pub reports: R,
     /// What each cache did, in the order of the kinds' numbers.
-    pub totals: [Totals; 3],
+    pub totals: [Totals; KINDS],
     /// How many objects went back to their cache since their slot had an owner.
     pub clashes: u64,
     /// What each shelf did, in the order of the kinds' numbers. What it held at the end went back to its cache.
-    pub shelves: [ShelfTotals; 3],
+    pub shelves: [ShelfTotals; KINDS],
     /// How many objects that came off a shelf went back to their cache since the table had their slots as another's.
     pub strays: u64,
     /// How many jobs each worker did, in the order of their seats.

@@ -1,8 +1,9 @@
-use Rattle.std.proofs.Common.{rules, tests, List, ℕ, Bor, ap, map, ◌∙◌, arith}
+use Rattle.std.proofs.Common.{rules, tests, ap, ◌∙◌, arith}
 use Rattle.std.proofs.lemmas.Iterator.Consumers.{YieldsList-turn, YieldsList-end}
 use Rattle.std.proofs.lemmas.Iterator.Splits.{YieldsList-from_slice_split}
 use Rattle.std.proofs.lemmas.List.{length_push}
 use Rattle.ebpf_assembly.specs.Lines.{text_lines, is_newline}
+use Rattle.ebpf_assembly.specs.Reading.{texts}
 use Rattle.ebpf_assembly.proofs.Labelling.{label_more, all_labels}
 use Rattle.ebpf_assembly.proofs.label.read_labels.Goals as goal
 
@@ -10,13 +11,12 @@ pub loop-line-preserved : goal.loop-line-preserved
 loop-line-preserved c =
     let turn = YieldsList-turn (YieldsList-from_slice_split _ is_newline c.args.text.now (cc) (cc) (cc) (λ x r q k. search (rules, tests)))
     c.loop-line.yielded _ c.loop-line.yielded_by _ _ c.in-Some.line c.in-Some.is c.next.ensures.steps in
-    let same = ap (λ (ws : List (Bor (List ℕ))). map (λ w. w.now) ws) c.deref.ensures.value ∙ c.in_ok-words.ensures in
-    let again = ap (λ (ws : List (Bor (List ℕ))). map (λ w. w.now) ws) c.deref-in-loop-line.ensures.value ∙ c.in_ok-words.ensures in
     record {
-      few = c.slot_after-slot.ensures.bound;
       rest = rw (length_push c.loop-line.yielded c.in-Some.line)
-          (label_more _ _ _ _ _ _ (text_lines c.args.text.now) _ _ _ turn.0 turn.1 same again c.in_ok-push_label.ensures c.slot_after-slot.ensures.value
-          c.loop-line.invariant.rest);
+          (label_more _ _ _ _ _ _ (text_lines c.args.text.now) _ _ _ turn.0 turn.1
+          (ap texts c.deref.ensures.value ∙ c.in_ok-words.ensures) (ap texts c.deref-in-loop-line.ensures.value ∙ c.in_ok-words.ensures)
+          c.in_ok-push_label.ensures c.slot_after-slot.ensures.value c.loop-line.invariant.rest);
+      few = c.slot_after-slot.ensures.bound;
     }
 
 pub returns : goal.returns

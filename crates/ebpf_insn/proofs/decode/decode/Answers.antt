@@ -7,7 +7,9 @@ use Rattle.ebpf_insn.specs.Program.{instructions}
 use Rattle.ebpf_insn.specs.Encoding.{IsProgram}
 use Rattle.ebpf_insn.specs.Decoding.{fault_at, decode_fault}
 use Rattle.ebpf_insn.proofs.FaultLemmas.{lowest-zero, lowest-more_none}
-use Rattle.ebpf_insn.proofs.ProgramBytes.{IsReadSoFar, read_none, read_half, read_more, is_even, refused_at, refusal_is, fault_from_lowest, fault_at_is, limit_fault, half_fault, none_pending, is_well_formed, is_program, same_program, instructions-append}
+use Rattle.ebpf_insn.proofs.ProgramBytes.{IsReadSoFar, read_none, read_half, read_more, is_even, refused_at, refusal_is, fault_from_lowest}
+use Rattle.ebpf_insn.proofs.ProgramBytes.{fault_at_is, limit_fault, half_fault, none_pending, is_well_formed, is_program, same_program}
+use Rattle.ebpf_insn.proofs.ProgramBytes.{instructions-append}
 use Rattle.ebpf_insn.proofs.decode.decode.Goals.{In-Err}
 use Rattle.ebpf_insn.proofs.decode.decode.Goals as goal
 
@@ -116,5 +118,8 @@ returns-clause-fine c =
 pub returns-clause-only : goal.returns-clause-only
 returns-clause-only c p h =
     let some : length c.args.bytes.now ≢ 0 = grind (arith, nat_tests) in
-    let found : IsProgram c.args.bytes.now c.new.result = rw c.new.ensures (is_program c.args.bytes.now c.loop-slot.slot c.loop-slot.slots.items (none_pending c.args.bytes.now c.loop-slot.slot c.loop-slot.slots.items c.loop-slot.is_second_half c.loop-slot.invariant.read (omega arith)) (omega arith) c.loop-slot.invariant.few (omega arith)) in
+    let found : IsProgram c.args.bytes.now c.new.result = rw c.new.ensures
+    (is_program c.args.bytes.now c.loop-slot.slot c.loop-slot.slots.items
+    (none_pending c.args.bytes.now c.loop-slot.slot c.loop-slot.slots.items c.loop-slot.is_second_half
+    c.loop-slot.invariant.read (omega arith)) (omega arith) c.loop-slot.invariant.few (omega arith)) in
     same_program c.args.bytes.now c.new.result p found h

@@ -5,7 +5,8 @@ use Rattle.ebpf_insn.specs.Decoding.{second_at}
 use Rattle.ebpf_insn.proofs.SlotBytes.{FitsSlot}
 use Rattle.ebpf_insn.proofs.Registers.{number_of-register_of}
 use Rattle.ebpf_insn.proofs.FromSlots.{IsFine}
-use Rattle.ebpf_insn.proofs.SlotTests.{nibble, encoded_as, encoded_with, lacks_is, bad_is, registers, fault_no_form, fault_left_out, fault_source, fault_dst, fault_src, fault_unused, fault_lacks, fault_second, fault_defined, no_fault}
+use Rattle.ebpf_insn.proofs.SlotTests.{nibble, encoded_as, encoded_with, lacks_is, bad_is, registers, fault_no_form, fault_left_out, fault_source}
+use Rattle.ebpf_insn.proofs.SlotTests.{fault_dst, fault_src, fault_unused, fault_lacks, fault_second, fault_defined, no_fault}
 use Rattle.ebpf_insn.proofs.decode.decode_form.Goals as goal
 
 pub returns-clause-found : goal.returns-clause-found
@@ -47,13 +48,27 @@ pub returns-then-not-leaves_unused_zero-clause-fault : goal.returns-then-not-lea
 returns-then-not-leaves_unused_zero-clause-fault c = fault_unused c.in-Some.form c.args.slot (second_at c.args.bytes.now) (registers (sym c.in-Some.is ∙ c.requires) c.if-has_left_out_source.ensures c.in-Some-Some.ensures c.in-Some-Some.ensures') c.if-not-leaves_unused_zero.ensures
 
 pub returns-then-lacks_second-clause-fault : goal.returns-then-lacks_second-clause-fault
-returns-then-lacks_second-clause-fault c = fault_lacks c.in-Some.form c.args.slot (second_at c.args.bytes.now) (registers (sym c.in-Some.is ∙ c.requires) c.if-has_left_out_source.ensures c.in-Some-Some.ensures c.in-Some-Some.ensures') c.if-not-leaves_unused_zero.ensures (lacks_is c.in-Some.form c.args.bytes.now c.second_of-second.ensures c.if-lacks_second.ensures)
+returns-then-lacks_second-clause-fault c = fault_lacks c.in-Some.form c.args.slot (second_at c.args.bytes.now)
+    (registers (sym c.in-Some.is ∙ c.requires) c.if-has_left_out_source.ensures c.in-Some-Some.ensures c.in-Some-Some.ensures')
+    c.if-not-leaves_unused_zero.ensures (lacks_is c.in-Some.form c.args.bytes.now c.second_of-second.ensures
+    c.if-lacks_second.ensures)
 
 pub returns-then-has_bad_second-clause-fault : goal.returns-then-has_bad_second-clause-fault
-returns-then-has_bad_second-clause-fault c = fault_second c.in-Some.form c.args.slot (second_at c.args.bytes.now) (registers (sym c.in-Some.is ∙ c.requires) c.if-has_left_out_source.ensures c.in-Some-Some.ensures c.in-Some-Some.ensures') c.if-not-leaves_unused_zero.ensures (lacks_is c.in-Some.form c.args.bytes.now c.second_of-second.ensures c.if-lacks_second.ensures) (bad_is c.in-Some.form c.args.bytes.now c.second_of-second.ensures c.if-has_bad_second.ensures)
+returns-then-has_bad_second-clause-fault c = fault_second c.in-Some.form c.args.slot (second_at c.args.bytes.now)
+    (registers (sym c.in-Some.is ∙ c.requires) c.if-has_left_out_source.ensures c.in-Some-Some.ensures c.in-Some-Some.ensures')
+    c.if-not-leaves_unused_zero.ensures (lacks_is c.in-Some.form c.args.bytes.now c.second_of-second.ensures
+    c.if-lacks_second.ensures) (bad_is c.in-Some.form c.args.bytes.now c.second_of-second.ensures c.if-has_bad_second.ensures)
 
 pub returns-then-not-has_defined_fields-clause-fault : goal.returns-then-not-has_defined_fields-clause-fault
-returns-then-not-has_defined_fields-clause-fault c = fault_defined c.in-Some.form c.args.slot (second_at c.args.bytes.now) (registers (sym c.in-Some.is ∙ c.requires) c.if-has_left_out_source.ensures c.in-Some-Some.ensures c.in-Some-Some.ensures') c.if-not-leaves_unused_zero.ensures (lacks_is c.in-Some.form c.args.bytes.now c.second_of-second.ensures c.if-lacks_second.ensures) (bad_is c.in-Some.form c.args.bytes.now c.second_of-second.ensures c.if-has_bad_second.ensures) c.if-not-has_defined_fields.ensures
+returns-then-not-has_defined_fields-clause-fault c = fault_defined c.in-Some.form c.args.slot (second_at c.args.bytes.now)
+    (registers (sym c.in-Some.is ∙ c.requires) c.if-has_left_out_source.ensures c.in-Some-Some.ensures c.in-Some-Some.ensures')
+    c.if-not-leaves_unused_zero.ensures (lacks_is c.in-Some.form c.args.bytes.now c.second_of-second.ensures
+    c.if-lacks_second.ensures) (bad_is c.in-Some.form c.args.bytes.now c.second_of-second.ensures c.if-has_bad_second.ensures)
+    c.if-not-has_defined_fields.ensures
 
 pub returns-clause-fault : goal.returns-clause-fault
-returns-clause-fault c = no_fault c.in-Some.form c.args.slot (second_at c.args.bytes.now) (registers (sym c.in-Some.is ∙ c.requires) c.if-has_left_out_source.ensures c.in-Some-Some.ensures c.in-Some-Some.ensures') c.if-not-leaves_unused_zero.ensures (lacks_is c.in-Some.form c.args.bytes.now c.second_of-second.ensures c.if-lacks_second.ensures) (bad_is c.in-Some.form c.args.bytes.now c.second_of-second.ensures c.if-has_bad_second.ensures) c.if-not-has_defined_fields.ensures
+returns-clause-fault c = no_fault c.in-Some.form c.args.slot (second_at c.args.bytes.now)
+    (registers (sym c.in-Some.is ∙ c.requires) c.if-has_left_out_source.ensures c.in-Some-Some.ensures c.in-Some-Some.ensures')
+    c.if-not-leaves_unused_zero.ensures (lacks_is c.in-Some.form c.args.bytes.now c.second_of-second.ensures
+    c.if-lacks_second.ensures) (bad_is c.in-Some.form c.args.bytes.now c.second_of-second.ensures c.if-has_bad_second.ensures)
+    c.if-not-has_defined_fields.ensures

@@ -9,90 +9,51 @@ use Rattle.ebpf_layout.proofs.Codes.{well_formed}
 use Rattle.ebpf_layout.proofs.Places.{IsDone, is_laid_out, jumps_forward, some_code}
 use Rattle.ebpf_layout.proofs.Fine.{flow_is_fine}
 use Rattle.ebpf_layout.proofs.Alike.{run_alike}
+use Rattle.ebpf_layout.proofs.layout.lay_out.Goals.{In_ok-code}
 use Rattle.ebpf_layout.proofs.layout.lay_out.Goals as goal
+
+-- all instructions are written, in the order that was found
+done : (c : In_ok-code)
+    → IsDone c.args.program.now c.in_ok-order.order.marks.items c.in_ok-order.order.slots.items
+    c.in_ok-code.field-0.places.items c.in_ok-code.field-0.code.items c.in_ok-code.field-0.count
+done c = record {
+  ordered = c.in_ok-order.ensures.ordered;
+  fine = c.in_ok-check_edges.ensures.fine;
+  writing = c.in_ok-code.ensures.written;
+  all = c.in_ok-code.ensures.all;
+}
+
+laid_out : (c : In_ok-code) → IsLaidOut c.args.program.now (reverse c.in_ok-code.field-0.code.items)
+laid_out c = is_laid_out _ _ _ _ _ _ (done c)
 
 pub new-requires-clause-formed : goal.new-requires-clause-formed
 new-requires-clause-formed c =
-    let p = c.args.program.now in
-    let o = c.in_ok-order.order in
     let w = c.in_ok-code.field-0 in
-    let done : IsDone p o.marks.items o.slots.items w.places.items w.code.items w.count =
-    record {
-      ordered = c.in_ok-order.ensures.ordered;
-      fine = c.in_ok-check_edges.ensures.fine;
-      writing = c.in_ok-code.ensures.written;
-      all =
-          c.in_ok-code.ensures.all;
-    } in
-    rw c.reverse.ensures.items (well_formed w.code.items w.count done.writing.coded
-    (some_code p o.marks.items o.slots.items w.places.items w.code.items w.count done)
+    let all = done (goal.at.new-requires-clause-formed c).In_ok-code in
+    rw c.reverse.ensures.items (well_formed w.code.items w.count all.writing.coded (some_code _ _ _ _ _ _ all)
     (omega (arith, c.len.ensures, c.if-len-gt-MAX_SLOTS.false, w.code.ok.0)))
 
 pub returns-then-len-gt-MAX_SLOTS-clause-refused : goal.returns-then-len-gt-MAX_SLOTS-clause-refused
 returns-then-len-gt-MAX_SLOTS-clause-refused c =
-    let p = c.args.program.now in
-    let o = c.in_ok-order.order in
-    let w = c.in_ok-code.field-0 in
-    let done : IsDone p o.marks.items o.slots.items w.places.items w.code.items w.count =
-    record {
-      ordered = c.in_ok-order.ensures.ordered;
-      fine = c.in_ok-check_edges.ensures.fine;
-      writing = c.in_ok-code.ensures.written;
-      all =
-          c.in_ok-code.ensures.all;
-    } in (
+    let w = c.in_ok-code.field-0 in (
       reverse w.code.items,
-      is_laid_out p o.marks.items o.slots.items w.places.items w.code.items w.count done,
-      omega
-          (arith, length-reverse w.code.items, c.len.ensures, c.if-len-gt-MAX_SLOTS.true, w.code.ok.0),
+      laid_out (goal.at.returns-then-len-gt-MAX_SLOTS-clause-refused c).In_ok-code,
+      omega (arith, length-reverse w.code.items, c.len.ensures, c.if-len-gt-MAX_SLOTS.true, w.code.ok.0),
     )
 
 pub returns-clause-laid_out : goal.returns-clause-laid_out
-returns-clause-laid_out c =
-    let p = c.args.program.now in
-    let o = c.in_ok-order.order in
-    let w = c.in_ok-code.field-0 in
-    let done : IsDone p o.marks.items o.slots.items w.places.items w.code.items w.count =
-    record {
-      ordered = c.in_ok-order.ensures.ordered;
-      fine = c.in_ok-check_edges.ensures.fine;
-      writing = c.in_ok-code.ensures.written;
-      all =
-          c.in_ok-code.ensures.all;
-    } in
-    rw (c.new.ensures, c.reverse.ensures.items) (is_laid_out p o.marks.items o.slots.items w.places.items w.code.items w.count done)
+returns-clause-laid_out c = rw (c.new.ensures, c.reverse.ensures.items) (laid_out (goal.at.returns-clause-laid_out c).In_ok-code)
 
 pub returns-clause-alike : goal.returns-clause-alike
 returns-clause-alike c =
-    let p = c.args.program.now in
-    let o = c.in_ok-order.order in
-    let w = c.in_ok-code.field-0 in
-    let done : IsDone p o.marks.items o.slots.items w.places.items w.code.items w.count =
-    record {
-      ordered = c.in_ok-order.ensures.ordered;
-      fine = c.in_ok-check_edges.ensures.fine;
-      writing = c.in_ok-code.ensures.written;
-      all =
-          c.in_ok-code.ensures.all;
-    } in
-    rw (c.new.ensures, c.reverse.ensures.items) (run_alike p _ (is_laid_out p o.marks.items o.slots.items w.places.items w.code.items w.count done))
+    rw (c.new.ensures, c.reverse.ensures.items) (run_alike c.args.program.now _ (laid_out (goal.at.returns-clause-alike c).In_ok-code))
 
 pub returns-clause-fine : goal.returns-clause-fine
 returns-clause-fine c =
-    let p = c.args.program.now in
-    let o = c.in_ok-order.order in
-    let w = c.in_ok-code.field-0 in
-    let done : IsDone p o.marks.items o.slots.items w.places.items w.code.items w.count =
-    record {
-      ordered = c.in_ok-order.ensures.ordered;
-      fine = c.in_ok-check_edges.ensures.fine;
-      writing = c.in_ok-code.ensures.written;
-      all =
-          c.in_ok-code.ensures.all;
-    } in
+    let h = (goal.at.returns-clause-fine c).In_ok-code in
+    let all = done h in
     rw (c.new.ensures, c.reverse.ensures.items)
-    (flow_is_fine p _ (is_laid_out p o.marks.items o.slots.items w.places.items w.code.items w.count done) done.ordered.formed done.fine
-    (λ k i e. jumps_forward p o.marks.items o.slots.items w.places.items w.code.items w.count k i done e))
+    (flow_is_fine c.args.program.now _ (laid_out h) all.ordered.formed all.fine (λ k i e. jumps_forward _ _ _ _ _ _ k i all e))
 
 pub returns-then-branch-clause-laid_out : goal.returns-then-branch-clause-laid_out
 returns-then-branch-clause-laid_out c =

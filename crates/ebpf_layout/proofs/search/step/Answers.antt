@@ -5,24 +5,14 @@ use Rattle.ebpf_layout.proofs.search.step.Goals as goal
 
 pub jump_from-jump-requires : goal.jump_from-jump-requires
 jump_from-jump-requires c =
-    let s = c.args.search.now in
-    omega (
-      arith,
-      top_inside c.args.program.now s.marks.items s.path.items s.order.items c.args.slot c.requires.so_far c.requires.last,
-      c.requires.so_far.formed.few,
-    )
+    omega (arith, top_inside c.args.program.now _ _ _ c.args.slot c.requires.so_far c.requires.last, c.requires.so_far.formed.few)
 
 pub follow-requires-clause-edge : goal.follow-requires-clause-edge
 follow-requires-clause-edge c = rw c.jump_from-jump.ensures (jump_leads c.args.program.now c.args.slot)
 
 pub fall_from-fall-requires : goal.fall_from-fall-requires
 fall_from-fall-requires c =
-    let s = c.args.search.now in
-    omega (
-      arith,
-      top_inside c.args.program.now s.marks.items s.path.items s.order.items c.args.slot c.requires.so_far c.requires.last,
-      c.requires.so_far.formed.few,
-    )
+    omega (arith, top_inside c.args.program.now _ _ _ c.args.slot c.requires.so_far c.requires.last, c.requires.so_far.formed.few)
 
 pub follow-requires-2-clause-edge : goal.follow-requires-2-clause-edge
 follow-requires-2-clause-edge c = rw c.fall_from-fall.ensures (fall_leads c.args.program.now c.args.slot)

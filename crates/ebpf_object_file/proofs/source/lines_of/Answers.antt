@@ -48,13 +48,11 @@ returns-then-not-is_named-clause-refused c =
 pub returns-clause-found : goal.returns-clause-found
 returns-clause-found c =
     let h = (goal.at.returns-clause-found c).After-is_named in
-    lines_found c.args.file.now c.bytes_of-btf.result.now c.bytes_of.result.now c.text_at-name.result.now c.args.section c.in-Some.btf
-    c.in-Some-find_section.ext
-    c.lines_in.result (tables h) (whole h ∙ c.if-not-is_named.false) c.bytes_of-btf.ensures c.bytes_of.ensures (named h) c.lines_in.ensures.found
+    lines_found c.args.file.now _ _ c.text_at-name.result.now c.args.section _ _ c.lines_in.result (tables h) (whole h ∙ c.if-not-is_named.false)
+    c.bytes_of-btf.ensures c.bytes_of.ensures (named h) c.lines_in.ensures.found
 
 pub returns-clause-refused : goal.returns-clause-refused
 returns-clause-refused c =
     let h = (goal.at.returns-clause-refused c).After-is_named in
-    lines_refused c.args.file.now c.bytes_of-btf.result.now c.bytes_of.result.now c.text_at-name.result.now c.args.section c.in-Some.btf
-    c.in-Some-find_section.ext
-    c.lines_in.result (tables h) (whole h ∙ c.if-not-is_named.false) c.bytes_of-btf.ensures c.bytes_of.ensures (named h) c.lines_in.ensures.refused
+    lines_refused c.args.file.now _ _ c.text_at-name.result.now c.args.section _ _ c.lines_in.result (tables h) (whole h ∙ c.if-not-is_named.false)
+    c.bytes_of-btf.ensures c.bytes_of.ensures (named h) c.lines_in.ensures.refused

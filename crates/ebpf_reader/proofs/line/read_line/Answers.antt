@@ -1,11 +1,11 @@
-use Rattle.std.proofs.Common.{Option, IfErr, sym, ap, ◌∙◌, subst}
+use Rattle.std.proofs.Common.{Option, OnOk, IfErr, sym, ap, ◌∙◌, subst}
 use Rattle.ebpf_command.specs.declared.done.FaultCode.{FaultCode}
 use Rattle.ebpf_command.specs.Stops.{IsStop}
-use Rattle.ebpf_reader.specs.ReadScripts.{parsed_script}
-use Rattle.ebpf_reader.specs.Shapes.{shape_of}
+use Rattle.ebpf_reader.specs.ReadScripts.{parsed_script, Adds}
+use Rattle.ebpf_reader.specs.Shapes.{Shape, shape_of}
 use Rattle.ebpf_reader.specs.Words.{words}
 use Rattle.ebpf_reader.proofs.LinesLemmas.{line_fault-text, line_fault-unprintable, added_fine}
-use Rattle.ebpf_reader.proofs.ShapeLemmas.{shaped_ok, six_say}
+use Rattle.ebpf_reader.proofs.ShapeLemmas.{six_say}
 use Rattle.ebpf_reader.proofs.line.read_line.Goals as goal
 
 pub returns-then-not-is_line_text-clause-refused : goal.returns-then-not-is_line_text-clause-refused
@@ -23,7 +23,7 @@ pub returns-clause-ok : goal.returns-clause-ok
 returns-clause-ok c =
     let line = c.args.line.now in
     let same = ap (shape_of c.args.dialect) line.split ∙ six_say c.args.dialect (words line.bytes.now) in
-    shaped_ok c.read_words.result _ _ _ _ (sym same) c.read_words.ensures.ok
+    subst (λ (s : Shape). OnOk c.read_words.result (Adds s c.args.script.now c.read_words.new.script)) same c.read_words.ensures.ok
 
 pub returns-clause-refused : goal.returns-clause-refused
 returns-clause-refused c =

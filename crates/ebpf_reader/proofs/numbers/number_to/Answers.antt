@@ -4,7 +4,8 @@ use Rattle.std.specs.Str.{all_ascii_digits}
 use Rattle.std.proofs.lemmas.Bool.Decides.{nat_tests}
 use Rattle.std.proofs.lemmas.List.{at_drop_all}
 use Rattle.ebpf_reader.specs.Numbers.{value_of}
-use Rattle.ebpf_reader.proofs.NumberLemmas.{more, value-grows, number_to-empty, number_to-not_digits, number_to-large, number_to-fits, value_here, not_digits_here}
+use Rattle.ebpf_reader.proofs.NumberLemmas.{more, value-grows, number_to-empty, number_to-not_digits, number_to-large, number_to-fits, value_here}
+use Rattle.ebpf_reader.proofs.NumberLemmas.{not_digits_here}
 use Rattle.ebpf_reader.proofs.numbers.number_to.Goals as goal
 
 pub returns-then-is_empty-clause-value : goal.returns-then-is_empty-clause-value

@@ -23,10 +23,11 @@ declared-is c = declared_by-said _ _ c.args.name.now _ c.in-Some-name_of.ensures
 pub returns-in_default-program_of-clause-refused :
     goal.returns-in_default-program_of-clause-refused
 returns-in_default-program_of-clause-refused c =
-    let allowed : is_name c.args.name.now ≡ true = sym c.in-Some-name_of.ensures.allowed in
-    let absent : number_of (map named c.args.script.now.programs.entries) c.args.name.now ≡ None =
-    number_of-said _ _ c.args.name.now _ c.in-Some-name_of.ensures.same c.in_default-program_of.ensures.number in
-    rw (bytes-are (goal.at.returns-in_default-program_of-clause-refused c).In-Some, allowed, absent) refl
+    rw (
+      bytes-are (goal.at.returns-in_default-program_of-clause-refused c).In-Some,
+      ← c.in-Some-name_of.ensures.allowed,
+      number_of-said (map named c.args.script.now.programs.entries) _ c.args.name.now None c.in-Some-name_of.ensures.same c.in_default-program_of.ensures.number,
+    ) refl
 
 pub returns-clause-refused : goal.returns-clause-refused
 returns-clause-refused c =

@@ -5,30 +5,36 @@ use Rattle.ebpf_reader.specs.Numbers.{context_of, held_of}
 use Rattle.ebpf_reader.specs.ReadScripts.{named}
 use Rattle.ebpf_reader.specs.ParsedScript.{number_of}
 use Rattle.ebpf_reader.proofs.ScriptLemmas.{is_defined-test, entries-more, named-more}
+use Rattle.ebpf_reader.proofs.statement.read_program.Goals.{After-contains_key}
 use Rattle.ebpf_reader.proofs.statement.read_program.Goals as goal
+
+-- what was read of each word but `program`
+read : (c : After-contains_key)
+    → (context_of c.args.context.now ≡ Some c.in-Some.context) × (held_of c.args.held.now ≡ Some c.in-Some-held_of.held)
+    × (hex_or_dash c.args.hex.now ≡ Some c.in-Some-2.bytes.items) × (is_name c.args.name.now ≡ true)
+read c = (
+  sym c.context_of.ensures.value ∙ c.in-Some.is,
+  sym c.held_of.ensures.value ∙ c.in-Some-held_of.is,
+  sym (rw c.in-Some-2.is at c.in_ok-bytes.ensures),
+  sym c.in-Some-name_of.ensures.allowed,
+)
 
 pub returns-then-contains_key-clause-refused :
     goal.returns-then-contains_key-clause-refused
 returns-then-contains_key-clause-refused c =
-    let context : context_of c.args.context.now ≡ Some c.in-Some.context = sym c.context_of.ensures.value ∙ c.in-Some.is in
-    let held : held_of c.args.held.now ≡ Some c.in-Some-held_of.held = sym c.held_of.ensures.value ∙ c.in-Some-held_of.is in
-    let bytes : hex_or_dash c.args.hex.now ≡ Some c.in-Some-2.bytes.items = sym (rw c.in-Some-2.is at c.in_ok-bytes.ensures) in
-    let allowed : is_name c.args.name.now ≡ true = sym c.in-Some-name_of.ensures.allowed in
+    let words = read (goal.at.returns-then-contains_key-clause-refused c).After-contains_key in
     let twice : is_some (number_of (map named c.args.script.now.programs.entries) c.args.name.now) ≡ true =
     is_defined-test _ _ c.args.name.now _ c.in-Some-name_of.ensures.same c.contains_key.ensures ∙ c.if-contains_key.true in
-    rw (context, held, bytes, allowed, twice) refl
+    rw (words.0, words.1, words.2, words.3, twice) refl
 
 pub returns-clause-ok : goal.returns-clause-ok
 returns-clause-ok c =
-    let context : context_of c.args.context.now ≡ Some c.in-Some.context = sym c.context_of.ensures.value ∙ c.in-Some.is in
-    let held : held_of c.args.held.now ≡ Some c.in-Some-held_of.held = sym c.held_of.ensures.value ∙ c.in-Some-held_of.is in
-    let bytes : hex_or_dash c.args.hex.now ≡ Some c.in-Some-2.bytes.items = sym (rw c.in-Some-2.is at c.in_ok-bytes.ensures) in
-    let allowed : is_name c.args.name.now ≡ true = sym c.in-Some-name_of.ensures.allowed in
+    let words = read (goal.at.returns-clause-ok c).After-contains_key in
     let once : is_some (number_of (map named c.args.script.now.programs.entries) c.args.name.now) ≡ false =
     is_defined-test _ _ c.args.name.now _ c.in-Some-name_of.ensures.same c.contains_key.ensures ∙ c.if-contains_key.false in
     let more = entries-more c.args.script.now.programs c.in_ok-name.name _ c.in-Some-name_of.name.now c.insert.new.self.entries c.in_ok-name.ensures.ok (sym c.if-contains_key.false ∙ c.contains_key.ensures) c.in_ok-insert.ensures.entries in
     let declared = rw c.unwrap-decl.ensures at c.new.ensures.value in
-    record { fine = rw (context, held, bytes, allowed, once) refl; parsed = rw (bytes, context, held, more, c.in_ok-name.ensures.ok, c.in-Some-name_of.ensures.same, declared.0, declared.1) refl }
+    record { fine = rw (words.0, words.1, words.2, words.3, once) refl; parsed = rw (words.2, words.0, words.1, more, c.in_ok-name.ensures.ok, c.in-Some-name_of.ensures.same, declared.0, declared.1) refl }
 
 pub invariant_of-script : goal.invariant_of-script
 invariant_of-script c =

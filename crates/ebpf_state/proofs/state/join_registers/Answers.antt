@@ -12,7 +12,9 @@ pub loop-i-preserved : goal.loop-i-preserved
 loop-i-preserved c =
     let here : c.loop-i.i < length c.loop-i.left = omega (arith, c.loop-i.invariant.whole) in
     let there : c.loop-i.i < length c.args.right.now = omega (arith, here, c.loop-i.invariant.whole, c.loop-i.invariant.same) in
-    joining_more joined_value Unset c.args.left.now c.args.right.now c.loop-i.left c.loop-i.i c.join_with.new.self (omega arith) c.loop-i.invariant (c.join_with.ensures ∙ ap₂ joined_value (get_or_default c.loop-i.left c.loop-i.i _ Unset here) (get_or_default c.args.right.now c.loop-i.i _ Unset there))
+    joining_more joined_value Unset c.args.left.now c.args.right.now c.loop-i.left c.loop-i.i c.join_with.new.self
+    (omega arith) c.loop-i.invariant (c.join_with.ensures ∙ ap₂ joined_value
+    (get_or_default c.loop-i.left c.loop-i.i _ Unset here) (get_or_default c.args.right.now c.loop-i.i _ Unset there))
 
 pub returns : goal.returns
 returns c = joining_all joined_value Unset c.args.left.now c.args.right.now c.loop-i.left c.loop-i.i (omega arith) c.loop-i.invariant

@@ -14,8 +14,11 @@ loop-i-init c = (changing_none (settled_word c.args.call c.args.null) (Spill Uns
 pub loop-i-preserved : goal.loop-i-preserved
 loop-i-preserved c =
     let inside : c.loop-i.i < length c.loop-i.words.items = omega (arith, c.loop-i.invariant.0.whole) in
-    let read = get_or_read c.loop-i.words.items c.loop-i.i _ inside c.index.ensures (Spill Unset) in
-    (changing_more (settled_word c.args.call c.args.null) (Spill Unset) c.args.words.now.items c.loop-i.words.items c.loop-i.i c.settle.result inside c.loop-i.invariant.0 (c.settle.ensures.value ∙ ap (settled_word c.args.call c.args.null) read), All-set IsProperWord c.loop-i.words.items c.loop-i.i _ c.settle.ensures.proper c.loop-i.invariant.1)
+    let read = get_or_read c.loop-i.words.items c.loop-i.i _ inside c.index.ensures (Spill Unset) in (
+      changing_more (settled_word c.args.call c.args.null) (Spill Unset) c.args.words.now.items c.loop-i.words.items c.loop-i.i
+          c.settle.result inside c.loop-i.invariant.0 (c.settle.ensures.value ∙ ap (settled_word c.args.call c.args.null) read),
+      All-set IsProperWord c.loop-i.words.items c.loop-i.i _ c.settle.ensures.proper c.loop-i.invariant.1,
+    )
 
 pub returns-clause-value : goal.returns-clause-value
 returns-clause-value c = changing_all (settled_word c.args.call c.args.null) (Spill Unset) c.args.words.now.items c.loop-i.words.items c.loop-i.i (omega (arith, c.loop-i.invariant.0.whole)) c.loop-i.invariant.0

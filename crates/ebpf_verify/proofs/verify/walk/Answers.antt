@@ -12,7 +12,7 @@ loop-slot-init c = record {
   all = c.slots-slots.ensures.value ∙ ap length c.program.ensures.value;
   len = c.in_ok-entries.ensures.len;
   came = λ t lo lt. c.in_ok-entries.ensures.first t lt ∙ sym (arrived-zero c.args.flowed.now t);
-  fine = lowest-zero (refusal_at (record { program = c.args.flowed.now; decl = c.args.decl; rows = c.args.rows.now }));
+  fine = lowest-zero (refusal_at (record { program = c.args.flowed.now; decl = c.args.decl; rows = c.args.kinds.now }));
 }
 
 pub returns-in_err-visit-clause-refused : goal.returns-in_err-visit-clause-refused
@@ -20,12 +20,12 @@ returns-in_err-visit-clause-refused c =
     let inside : c.loop-slot.slot < length c.args.flowed.now = omega (arith, c.loop-slot.invariant.all) in
     let here = c.loop-slot.invariant.came c.loop-slot.slot (omega arith) (omega arith) in
     let p = err_from_is_err_and c.from_residual-in_err-visit.result c.from_residual-in_err-visit.ensures.1 in
-    rw (p.1, p.2) (refused_here (record { program = c.args.flowed.now; decl = c.args.decl; rows = c.args.rows.now }) c.loop-slot.slot (slice_index_or c.loop-slot.entries.items c.loop-slot.slot Unreached) c.in_err-visit.field-0.0 inside c.loop-slot.invariant.fine here c.in_err-visit.ensures.refused)
+    rw (p.1, p.2) (refused_here (record { program = c.args.flowed.now; decl = c.args.decl; rows = c.args.kinds.now }) c.loop-slot.slot (slice_index_or c.loop-slot.entries.items c.loop-slot.slot Unreached) c.in_err-visit.field-0.0 inside c.loop-slot.invariant.fine here c.in_err-visit.ensures.refused)
 
 pub loop-slot-preserved : goal.loop-slot-preserved
 loop-slot-preserved c =
     let here = c.loop-slot.invariant.came c.loop-slot.slot (omega arith) (omega arith) in
-    let subject : Subject = record { program = c.args.flowed.now; decl = c.args.decl; rows = c.args.rows.now } in
+    let subject : Subject = record { program = c.args.flowed.now; decl = c.args.decl; rows = c.args.kinds.now } in
     record {
       all = c.slots-slots.ensures.value ∙ ap length c.program.ensures.value;
       len = c.in_ok-visit.ensures.len ∙ c.loop-slot.invariant.len;

@@ -10,5 +10,5 @@ invariant-loop-slot l = record {
   all : l.slots ≡ length l.fn.flowed;
   len : length l.entries.items ≡ l.slots;
   came : (t : ℕ) → l.slot ≤ t → t < l.slots → slice_index_or l.entries.items t Unreached ≡ arrived l.fn.flowed l.slot t;
-  fine : lowest (refusal_at (record { program = l.fn.flowed; decl = l.fn.decl; rows = l.fn.rows })) l.slot ≡ None;
+  fine : lowest (refusal_at (record { program = l.fn.flowed; decl = l.fn.decl; rows = l.fn.kinds })) l.slot ≡ None;
 }

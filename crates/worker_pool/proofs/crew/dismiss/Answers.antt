@@ -1,8 +1,8 @@
-use Rattle.std.proofs.Common.{rules, ◌≡◌, ◌≤◌, ◌*◌, ◌^◌, length, arith}
+use Rattle.std.proofs.Common.{rules, ◌≡◌, length, arith}
 use Rattle.std.proofs.lemmas.List.{nil_from_length}
 use Rattle.worker_pool.proofs.EachKind.{have_places, none_room, same_rooms}
 use Rattle.worker_pool.proofs.Pairs.{at_most, fits}
-use Rattle.worker_pool.proofs.Dismissing.{last_back, few_more, one_apart, none_apart, done_are, all_dismissed}
+use Rattle.worker_pool.proofs.Dismissing.{last_back, sums_fit, one_apart, none_apart, done_are, all_dismissed}
 use Rattle.worker_pool.proofs.crew.dismiss.Goals as goal
 
 pub loop-worker-init : goal.loop-worker-init
@@ -26,21 +26,13 @@ unreachable-requires g c =
 
 pub overflow_add-done : goal.overflow_add-done
 overflow_add-done g c =
-    let i = c.loop-worker.invariant in
-    let few = few_more _ _ _ c.take_last-tools.result c.in-Some.field-0 _ _ c.take_last-tools.ensures.items c.in-Some.is i.apart in
-    let done = done_are _ _ _ _ i.apart in
-    let all = c.requires.few in
-    let most : length i.apart.done * 2 ^ 56 ≤ 64 * 2 ^ 56 = omega (arith, done, all) in
-    omega (arith, few.0, most, i.apart.few.0)
+    let fits = sums_fit _ _ _ c.take_last-tools.result c.in-Some.field-0 _ _ c.take_last-tools.ensures.items c.in-Some.is c.loop-worker.invariant.apart c.requires.few in
+    omega (arith, fits.0)
 
 pub overflow_add-done-in-loop-worker : goal.overflow_add-done-in-loop-worker
 overflow_add-done-in-loop-worker g c =
-    let i = c.loop-worker.invariant in
-    let few = few_more _ _ _ c.take_last-tools.result c.in-Some.field-0 _ _ c.take_last-tools.ensures.items c.in-Some.is i.apart in
-    let done = done_are _ _ _ _ i.apart in
-    let all = c.requires.few in
-    let most : length i.apart.done * 2 ^ 56 ≤ 64 * 2 ^ 56 = omega (arith, done, all) in
-    omega (arith, few.1, most, i.apart.few.1)
+    let fits = sums_fit _ _ _ c.take_last-tools.result c.in-Some.field-0 _ _ c.take_last-tools.ensures.items c.in-Some.is c.loop-worker.invariant.apart c.requires.few in
+    omega (arith, fits.1)
 
 pub loop-worker-preserved : goal.loop-worker-preserved
 loop-worker-preserved g c =

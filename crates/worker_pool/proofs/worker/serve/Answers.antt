@@ -5,7 +5,7 @@ use Rattle.owners_table.specs.Drawing.{TicketView, IsOf, times}
 use Rattle.worker_pool.specs.declared.answered.Bundle.{Bundle}
 use Rattle.worker_pool.specs.Numbering.{IsWhole, Numbered, told_by, told_of}
 use Rattle.worker_pool.specs.Working.{Answers}
-use Rattle.worker_pool.proofs.Answering.{answered_all}
+use Rattle.worker_pool.proofs.Sums.{answered_all}
 use Rattle.worker_pool.proofs.Bundles.{drawn_more, drawn_past, times_more}
 use Rattle.worker_pool.proofs.NumberingLemmas.{told_more}
 use Rattle.worker_pool.proofs.worker.serve.Goals as goal

@@ -1,16 +1,17 @@
 use Rattle.std.proofs.Common.{rules, ◌≡◌, ℕ, true, false, Some, None, Option, List, refl, sym, ap, ◌∙◌, subst, arith}
-use Rattle.std.specs.Prelude.{is_some}
+use Rattle.std.specs.Prelude.{is_some, slice_get}
 use Rattle.std.proofs.lemmas.Option.{slice_get_past, slice_get_read}
 use Rattle.std.proofs.lemmas.List.Elements.{All-set}
 use Rattle.ebpf_machine.specs.Events.{NoSuchRun, RunEnded}
 use Rattle.ebpf_shelves.specs.declared.object.Object.{Object}
-use Rattle.ebpf_core.specs.Places.{lent_by, place_lent}
-use Rattle.ebpf_core.specs.Shown.{IsTended}
+use Rattle.ebpf_core.specs.Places.{lent_by, place_at, place_lent}
+use Rattle.ebpf_core.specs.Shown.{WorldState, IsTended}
 use Rattle.ebpf_core.specs.Stepping.{code_by, CanLend}
 use Rattle.ebpf_core.proofs.Runs.{at_number}
-use Rattle.ebpf_core.proofs.Executing.{instruction, executed_none, executed_ended, executed_bad, executed_after}
+use Rattle.ebpf_core.proofs.Executing.{IsInstruction, instruction, executed_none, executed_ended, executed_bad, executed_after}
 use Rattle.ebpf_core.proofs.Exchanging.{can_lend}
 use Rattle.ebpf_core.proofs.Passed.{placed_after, moved_by, freed_known, known_by, shelves_known}
+use Rattle.ebpf_core.proofs.world.World.execute.Goals.{After-step_in-freed}
 use Rattle.ebpf_core.proofs.world.World.execute.Goals as goal
 
 exited : (o : Option ℕ) → is_some o ≡ true → (n : ℕ) × (o ≡ Some n)
@@ -49,62 +50,74 @@ step_in-freed-requires-clause-lends c =
     (subst (λ (s : List (Option Object)). CanLend (lent_by c.args.answer c.self.inside.places.entries) s r) (sym c.replace-shelves.ensures.value)
     (can_lend _ c.args.run c.args.answer r c.self.invariant.placed tended at fine))
 
+-- ---- what is known once the instruction was done
+
+-- the world before it
+abbrev before : After-step_in-freed → WorldState
+before c = record {
+  programs = c.self.inside.programs.now;
+  runs = c.self.inside.runs.items;
+  ledgers = c.self.inside.ledgers;
+  places = c.self.inside.places.entries;
+  shelves = c.self.inside.shelves;
+}
+
+-- the run of the number goes on
+there : (c : After-step_in-freed) → slice_get c.self.inside.runs.items c.args.run ≡ Some c.index_mut-run.result.now
+there c = slice_get_read c.self.inside.runs.items _ c.args.run c.index_mut-run.result.now refl (omega arith) c.index_mut-run.ensures.value
+
+goes_on : (c : After-step_in-freed) → c.index_mut-run.result.now.exit ≡ None
+goes_on c = going c.index_mut-run.result.now.exit (search rules)
+
 -- it is one instruction of this run, in the world that is kept
+abbrev done : (c : After-step_in-freed)
+    → IsInstruction (before c) c.args.run c.args.answer c.index_mut-run.result.now c.step_in-freed.new.run c.step_in-freed.result.0
+done c =
+    instruction _ c.args.run c.args.answer c.index_mut-run.result.now c.step_in-freed.new.run c.lend-lent.result c.step_in-freed.result.0 c.wants.result
+    c.answer_fault.result c.self.invariant (there c) (goes_on c) c.answer_fault.ensures c.in_default.is c.wants.ensures c.lend-lent.ensures.object
+    c.replace-shelves.result c.step_in-freed.result.1 c.replace-shelves.ensures.value c.step_in-freed.ensures.stepped
+
+-- and what it was lent left its place
+lent_from : (c : After-step_in-freed) → (q : ℕ)
+    → place_at c.lend-lent.new.places.entries q ≡ place_lent c.args.answer c.args.run c.index_mut-run.result.now.pc c.self.inside.places.entries q
+lent_from c q =
+    c.lend-lent.ensures.places q ∙ ap (λ (n : ℕ). place_lent c.args.answer c.args.run n c.self.inside.places.entries q) c.pc-at.ensures.value
+
 pub put-requires : goal.put-requires
 put-requires c =
-    let r = c.index_mut-run.result.now in
-    let t = c.step_in-freed.new.run in
-    let at = slice_get_read c.self.inside.runs.items _ c.args.run r refl (omega arith) c.index_mut-run.ensures.value in
-    let i = instruction _ c.args.run c.args.answer r t c.lend-lent.result c.step_in-freed.result.0 c.wants.result c.answer_fault.result c.self.invariant at
-    (going r.exit (search rules)) c.answer_fault.ensures c.in_default.is c.wants.ensures c.lend-lent.ensures.object c.replace-shelves.result
-    c.step_in-freed.result.1 c.replace-shelves.ensures.value c.step_in-freed.ensures.stepped in
-    let lent =
-    λ (q : ℕ). c.lend-lent.ensures.places q ∙ ap (λ (n : ℕ). place_lent c.args.answer c.args.run n c.self.inside.places.entries q) c.pc-at.ensures.value in
-    record { known = freed_known c.self.invariant.shown.0 _ c.args.run c.args.answer r t c.step_in-freed.result.0 _ c.self.invariant.shown.1 i lent }
+    let h = (goal.at.put-requires c).After-step_in-freed in
+    let shown = c.self.invariant.shown in
+    record { known = freed_known shown.0 _ c.args.run c.args.answer _ _ c.step_in-freed.result.0 _ shown.1 (done h) (lent_from h) }
 
 pub exchange-requires : goal.exchange-requires
 exchange-requires c =
+    let h = (goal.at.exchange-requires c).After-step_in-freed in
+    let shown = c.self.invariant.shown in
     let r = c.index_mut-run.result.now in
-    let t = c.step_in-freed.new.run in
-    let at = slice_get_read c.self.inside.runs.items _ c.args.run r refl (omega arith) c.index_mut-run.ensures.value in
-    let i = instruction _ c.args.run c.args.answer r t c.lend-lent.result c.step_in-freed.result.0 c.wants.result c.answer_fault.result c.self.invariant at
-    (going r.exit (search rules)) c.answer_fault.ensures c.in_default.is c.wants.ensures c.lend-lent.ensures.object c.replace-shelves.result
-    c.step_in-freed.result.1 c.replace-shelves.ensures.value c.step_in-freed.ensures.stepped in
-    let lent =
-    λ (q : ℕ). c.lend-lent.ensures.places q ∙ ap (λ (n : ℕ). place_lent c.args.answer c.args.run n c.self.inside.places.entries q) c.pc-at.ensures.value in
-    let known = shelves_known c.self.invariant.shown.0 _ c.args.run c.args.answer r t c.step_in-freed.result.0 _ c.put.new.places.entries
-    c.self.invariant.shown.1 i lent c.put.ensures.places in
+    let known = shelves_known shown.0 _ c.args.run c.args.answer r _ c.step_in-freed.result.0 _ c.put.new.places.entries shown.1 (done h) (lent_from h)
+    c.put.ensures.places in
     let are = known_by c.self.inside.shelves r c.step_in-freed.result.1 c.put.new.places.entries c.reaches-reached.result c.slot_reached-stood.result
     c.slot_reached-stands.result c.reaches-reached.ensures c.slot_reached-stood.ensures c.slot_reached-stands.ensures known in
     record { stood = are.stood_has; stands = are.stands_has }
 
 pub invariant_of-self-2 : goal.invariant_of-self-2
 invariant_of-self-2 c =
-    let r = c.index_mut-run.result.now in
-    let t = c.step_in-freed.new.run in
-    let at = slice_get_read c.self.inside.runs.items _ c.args.run r refl (omega arith) c.index_mut-run.ensures.value in
-    let i = instruction _ c.args.run c.args.answer r t c.lend-lent.result c.step_in-freed.result.0 c.wants.result c.answer_fault.result c.self.invariant at
-    (going r.exit (search rules)) c.answer_fault.ensures c.in_default.is c.wants.ensures c.lend-lent.ensures.object c.replace-shelves.result
-    c.step_in-freed.result.1 c.replace-shelves.ensures.value c.step_in-freed.ensures.stepped in
+    let i = done (goal.at.invariant_of-self-2 c).After-step_in-freed in
     let w = c.self.invariant.shown in
-    let after = executed_after w.0 _ c.args.run c.args.answer r t c.step_in-freed.result.0 w.1 i in
+    let r = c.index_mut-run.result.now in
+    let after = executed_after w.0 _ c.args.run c.args.answer r _ c.step_in-freed.result.0 w.1 i in
     let m = moved_by _ c.args.run c.args.answer r c.step_in-freed.result.0 c.step_in-freed.result.1 _ c.put.new.places.entries c.exchange.new.places.entries
     c.reaches-reached.result c.slot_reached-stood.result c.slot_reached-stands.result c.pc-at.result c.pc-at.ensures.value c.reaches-reached.ensures
     c.slot_reached-stood.ensures c.slot_reached-stands.ensures c.lend-lent.ensures.places c.put.ensures.places c.exchange.ensures.places in
     record {
       known = c.self.invariant.known;
-      runs = All-set IsTended c.self.inside.runs.items c.args.run t c.step_in-freed.ensures.tended c.self.invariant.runs;
-      placed = placed_after w.0 _ c.args.run c.args.answer r t c.step_in-freed.result.0 _ c.put.new.places.entries c.exchange.new.places.entries w.1 i m;
+      runs = All-set IsTended c.self.inside.runs.items c.args.run _ c.step_in-freed.ensures.tended c.self.invariant.runs;
+      placed = placed_after w.0 _ c.args.run c.args.answer r _ c.step_in-freed.result.0 _ c.put.new.places.entries c.exchange.new.places.entries w.1 i m;
       shown = (after.after, after.shows c.exchange.new.places.entries);
     }
 
 pub returns-clause-done : goal.returns-clause-done
 returns-clause-done c = rw (← c.self.view_is) (λ w h.
-    let r = c.index_mut-run.result.now in
-    let t = c.step_in-freed.new.run in
-    let at = slice_get_read c.self.inside.runs.items _ c.args.run r refl (omega arith) c.index_mut-run.ensures.value in
-    let i = instruction _ c.args.run c.args.answer r t c.lend-lent.result c.step_in-freed.result.0 c.wants.result c.answer_fault.result c.self.invariant at
-    (going r.exit (search rules)) c.answer_fault.ensures c.in_default.is c.wants.ensures c.lend-lent.ensures.object c.replace-shelves.result
-    c.step_in-freed.result.1 c.replace-shelves.ensures.value c.step_in-freed.ensures.stepped in
-    let after = executed_after w _ c.args.run c.args.answer r t c.step_in-freed.result.0 h i in
+    let i = done (goal.at.returns-clause-done c).After-step_in-freed in
+    let after = executed_after w _ c.args.run c.args.answer _ _ c.step_in-freed.result.0 h i in
     (after.after, after.legal, after.shows c.exchange.new.places.entries))

@@ -8,7 +8,8 @@ use mir.Val.{Val, vptr, vcons, vnil}
 use base.Logic.{SProp, ent, sep, emp, id⊢}
 use base.Fml.{Lft, GName, Share, Fml, ftrue, fsep, flft, fres}
 use types.Logic.{Logic, sem}
-use types.Kit.{‵, raw, ◌⊛◌, some, later, at_ret, ◌$◌, ◌∵◌, !, qed, by, done, move, keep, split, split3, join, fsplit, fsplit3, fjoin, fpack, pick, group, use0, use1, await, rewrite, feq_i}
+use types.Kit.{‵, raw, ◌⊛◌, some, later, at_ret, ◌$◌, ◌∵◌, !, qed, by, done, move, keep, split, split3, join, fsplit, fsplit3, fjoin, fpack, pick}
+use types.Kit.{group, use0, use1, await, rewrite, feq_i}
 use types.Run.{stop, fld, load, addr, lit, of_opd, bin, no_more, and_then, first, blocks, branches, exec, skips, returns, returns_within, enter}
 use types.ByLocal.{alloc_all, pass_all, free_all, look_at, get, through, sets, sets_last, env}
 use types.Part.{agg, sub, whole, look_in}

@@ -56,6 +56,9 @@ loop-slot-preserved c =
       all = c.slots-slots.ensures.value ∙ ap length c.program.ensures.value;
       len = c.in-Ok.ensures.len ∙ c.loop-slot.invariant.len;
       came = λ t lo lt. c.in-Ok.ensures.sent t (omega arith) (omega (arith, c.loop-slot.invariant.all)) ∙ arrived-more c.args.flowed.now c.loop-slot.slot t _ _ here (c.loop-slot.invariant.came t (omega arith) lt);
-      seen = c.in_ok-push.ensures.items ∙ entries_below-more c.args.flowed.now c.loop-slot.slot _ _ (c.in_ok-copy.ensures ∙ (c.index.ensures ∙ (get_or_default c.loop-slot.arriving.items c.loop-slot.slot c.index.result.now Unreached (omega (arith, c.loop-slot.invariant.len, c.loop-slot.invariant.all)) ∙ here))) c.loop-slot.invariant.seen;
+      seen = c.in_ok-push.ensures.items ∙ entries_below-more c.args.flowed.now c.loop-slot.slot _ _
+          (c.in_ok-copy.ensures ∙ (c.index.ensures ∙ (get_or_default c.loop-slot.arriving.items c.loop-slot.slot
+          c.index.result.now Unreached (omega (arith, c.loop-slot.invariant.len, c.loop-slot.invariant.all)) ∙ here)))
+          c.loop-slot.invariant.seen;
       fine = lowest-more_none (refusal_at subject) c.loop-slot.slot c.loop-slot.invariant.fine (refusal_here subject c.loop-slot.slot _ None here c.in-Ok.ensures.fine);
     }

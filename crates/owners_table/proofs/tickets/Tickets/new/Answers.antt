@@ -1,5 +1,4 @@
-use Rattle.std.proofs.Common.{◌≡◌, ℕ, ◌+◌, ◌<◌, List, [], ◌∷◌, drop, take, All, sym, ap, ◌∙◌, subst, refl, arith}
-use Rattle.std.proofs.lemmas.List.Elements.{All-push}
+use Rattle.std.proofs.Common.{◌≡◌, ℕ, ◌<◌, List, [], ◌∷◌, sym, ap, ◌∙◌, refl, arith}
 use Rattle.atomic_table.specs.Seated.{TableId}
 use Rattle.atomic_table.specs.declared.shared.Seat.{Seat}
 use Rattle.owners_table.specs.declared.drawing.TicketSheet.{TicketSheet}
@@ -7,7 +6,7 @@ use Rattle.owners_table.specs.Sheets.{first_or}
 use Rattle.owners_table.specs.Drawing.{blank, fresh, ticket_view}
 use Rattle.owners_table.proofs.DrawingSteps.{splits}
 use Rattle.owners_table.specs.declared.drawing.Bounds.{Bounds}
-use Rattle.owners_table.proofs.Dealing.{rest-dealt, all-there, last-left, only-first, none-yet, room-left, all-dealt}
+use Rattle.owners_table.proofs.Dealing.{deals-none, room-left, first-blank, last-blank, deals-one, deals-last, still-single}
 use Rattle.owners_table.proofs.tickets.Tickets.new.Goals as goal
 
 -- the view of a seat that was just dealt
@@ -18,55 +17,40 @@ dealt limit p table e m =
 
 pub split_seat-seat-requires : goal.split_seat-seat-requires
 split_seat-seat-requires c =
-    let i = c.loop-i.invariant in
     let t = c.in_ok-table.ensures in
     let some : 0 < c.in_ok-table.table.shared.table_id.words = omega (arith, t.0) in
-    (i.table, some, splits _ _ _ _)
-
-pub loop-i-preserved : goal.loop-i-preserved
-loop-i-preserved c =
-    let i = c.loop-i.invariant in
-    let s = c.split_seat-seat.ensures in
-    let p = c.push_reserved.ensures in
-    let one = ap (λ m. m.0) s.4 ∙ ap (take 1) i.sheets in
-    let seat = dealt c.args.limit c.split_seat-seat.result c.in_ok-table.table.shared.table_id (s.3 ∙ i.table) one in record {
-      table = s.0 ∙ i.table;
-      sheets = ap (λ m. m.0) s.2 ∙ (ap (drop 1) i.sheets ∙ rest-dealt c.args.seats c.loop-i._i (blank c.args.limit) c.loop-i-test.true);
-      bare = ap (λ m. m.1) s.2 ∙ i.bare;
-      len = omega (arith, i.len, p.len);
-      room = omega (arith, i.room, p.capacity);
-      all = subst (All (λ s. s ≡ fresh c.in_ok-table.table.shared.table_id c.args.limit)) (sym p.items) (All-push (λ s. s ≡ fresh c.in_ok-table.table.shared.table_id c.args.limit) c.loop-i.all.items _ i.all seat);
-    }
+    (c.loop-i.invariant.table, some, splits _ _ _ _)
 
 pub loop-i-init : goal.loop-i-init
 loop-i-init c =
     let t = c.in_ok-table.ensures in
-    let a = c.in_ok-all.ensures in record {
-      table = t.2;
-      sheets = ap (λ m. m.0) t.4 ∙ all-there c.from.result c.args.seats (blank c.args.limit) c.from.ensures c.requires;
-      bare = ap (λ m. m.1) t.4;
-      len = ap (λ n. n + 1) a.len;
-      room = a.capacity;
-      all = none-yet (λ s. s ≡ fresh c.in_ok-table.table.shared.table_id c.args.limit) c.in_ok-all.all.items a.items;
-    }
+    let a = c.in_ok-all.ensures in
+    deals-none _ _ _ _ _ _ _ _ _ t.2 _ c.from.ensures c.requires (ap (λ m. m.0) t.4) (ap (λ m. m.1) t.4) a.len refl a.capacity a.items
+
+pub loop-i-preserved : goal.loop-i-preserved
+loop-i-preserved c =
+    let s = c.split_seat-seat.ensures in
+    let p = c.push_reserved.ensures in
+    deals-one _ _ _ _ _ _ _ _ _ c.loop-i.invariant c.loop-i-test.true c.split_seat-seat.result _ _ _ _ _ s.3 (ap (λ m. m.0) s.4)
+    (dealt c.args.limit c.split_seat-seat.result _)
+    s.0 (ap (λ m. m.0) s.2) (ap (λ m. m.1) s.2) p.len (λ room. omega (arith, room, p.capacity)) p.items
 
 pub push_reserved-requires : goal.push_reserved-requires
-push_reserved-requires c = room-left _ c.loop-i._i c.args.seats _ c.loop-i.invariant.len (c.loop-i.auto._i-end c.requires) c.loop-i.invariant.room
+push_reserved-requires c = room-left _ _ _ _ _ _ _ _ _ c.loop-i.invariant (c.loop-i.auto._i-end c.requires)
 
 pub push_reserved-requires-2 : goal.push_reserved-requires-2
-push_reserved-requires-2 c = room-left _ c.loop-i._i c.args.seats _ c.loop-i.invariant.len (c.loop-i.auto._i-end c.requires) c.loop-i.invariant.room
+push_reserved-requires-2 c = room-left _ _ _ _ _ _ _ _ _ c.loop-i.invariant (c.loop-i.auto._i-end c.requires)
 
 pub invariant_of-push_reserved : goal.invariant_of-push_reserved
 invariant_of-push_reserved c =
-    let s = c.split_seat-seat.ensures in
-    let one = ap (λ m. m.0) s.4 ∙ ap (take 1) c.loop-i.invariant.sheets in
-    ((only-first (blank 0) (blank c.args.limit) c.split_seat-seat.result.me.0 one, ap (λ m. m.1) s.4), ap (λ v. (first_or (blank 0) v).passed) one)
+    let same = c.split_seat-seat.ensures.4 in
+    let one = first-blank _ _ _ _ _ _ _ _ _ c.loop-i.invariant _ (ap (λ m. m.0) same) in
+    (still-single (blank 0) (blank c.args.limit) _ _ _ one (ap (λ m. m.1) same) refl, ap (λ v. (first_or (blank 0) v).passed) one)
 
 pub invariant_of-push_reserved-2 : goal.invariant_of-push_reserved-2
 invariant_of-push_reserved-2 c =
-    let i = c.loop-i.invariant in
-    let one = i.sheets ∙ last-left c.args.seats c.loop-i._i (blank c.args.limit) c.loop-i-test.false in
-    ((only-first (blank 0) (blank c.args.limit) c.loop-i.rest.me.0 one, i.bare), ap (λ v. (first_or (blank 0) v).passed) one)
+    let one = last-blank _ _ _ _ _ _ _ _ _ c.loop-i.invariant c.loop-i-test.false in
+    (still-single (blank 0) (blank c.args.limit) _ _ _ one refl c.loop-i.invariant.bare, ap (λ v. (first_or (blank 0) v).passed) one)
 
 pub invariant_of-result : goal.invariant_of-result
 invariant_of-result c =
@@ -82,9 +66,6 @@ pub returns-clause-seats : goal.returns-clause-seats
 returns-clause-seats c =
     let i = c.loop-i.invariant in
     let p = c.push_reserved-2.ensures in
-    let table = c.in_ok-table.table.shared.table_id in
-    let one = i.sheets ∙ last-left c.args.seats c.loop-i._i (blank c.args.limit) c.loop-i-test.false in
-    let seat = dealt c.args.limit c.loop-i.rest table i.table one in (
-      all-dealt _ _ c.loop-i._i c.args.seats p.len i.len (c.loop-i.auto._i-end c.requires) c.loop-i-test.false,
-      subst (All (λ s. s ≡ fresh table c.args.limit)) (sym p.items) (All-push (λ s. s ≡ fresh table c.args.limit) c.loop-i.all.items _ i.all seat),
-    )
+    let end = c.loop-i-test.false in
+    deals-last _ _ _ _ _ _ _ _ _ i (c.loop-i.auto._i-end c.requires) end _ _ _ p.len p.items
+    (dealt c.args.limit c.loop-i.rest _ i.table (last-blank _ _ _ _ _ _ _ _ _ i end))

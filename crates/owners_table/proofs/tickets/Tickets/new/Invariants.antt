@@ -1,14 +1,9 @@
-use Rattle.std.proofs.Common.{◌≡◌, ◌+◌, ◌-◌, ◌≤◌, suc, [], replicate, vec_len, All}
+use Rattle.std.proofs.Common.{vec_len}
 use Rattle.std.specs.Vec.{vec_capacity}
 use Rattle.owners_table.specs.Drawing.{blank, fresh}
+use Rattle.owners_table.proofs.Dealing.{Dealt}
 use Rattle.owners_table.proofs.tickets.Tickets.new.Given as goal
 
 abbrev pub invariant-loop-i : goal.invariant-loop-i
-invariant-loop-i l = record {
-  table : l.rest.table_id ≡ l.table.shared.table_id;
-  sheets : l.rest.me.0 ≡ replicate (suc (l.seats - l._i)) (blank l.limit);
-  bare : l.rest.me.1 ≡ [];
-  len : vec_len l.all + 1 ≡ l._i;
-  room : l.seats ≤ vec_capacity l.all;
-  all : All (λ s. s ≡ fresh l.table.shared.table_id l.limit) l.all.items;
-}
+invariant-loop-i l =
+    let table = l.table.shared.table_id in Dealt (blank l.limit) (fresh table l.limit) table l.seats l._i l.rest (vec_len l.all) (vec_capacity l.all) l.all.items

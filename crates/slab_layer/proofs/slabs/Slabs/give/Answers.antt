@@ -1,4 +1,5 @@
-use Rattle.std.proofs.Common.{Fits, w32, w64, Bool, ◌≡◌, ◌<◌, ◌-◌, ◌%◌, ◌/◌, ◌++◌, ◌∷◌, [], not, if◌then◌else◌, ◌∙◌, Some, ap, sym, subst, set, get_or, length, refl, ℕ, arith, rules}
+use Rattle.std.proofs.Common.{Fits, w32, w64, Bool, ◌≡◌, ◌<◌, ◌-◌, ◌%◌, ◌/◌, ◌++◌, ◌∷◌, [], not, if◌then◌else◌, ◌∙◌, Some, ap, sym, subst, set}
+use Rattle.std.proofs.Common.{get_or, length, refl, ℕ, arith, rules}
 use Rattle.std.specs.Prelude.{slice_get}
 use Rattle.std.proofs.lemmas.Option.{slice_get_within}
 use Rattle.slab_layer.specs.declared.slab.Slab.{Slab}

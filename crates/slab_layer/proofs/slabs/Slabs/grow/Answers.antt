@@ -1,4 +1,5 @@
-use Rattle.std.proofs.Common.{ℕ, ◌+◌, ◌≤◌, ◌++◌, ◌∷◌, [], Fits, w64, ◌≡◌, ◌<◌, ◌/◌, ◌⊎◌, ◌∙◌, ap, sym, subst, set, replicate, length, vec_len, vec_capacity, arith, rules}
+use Rattle.std.proofs.Common.{ℕ, ◌+◌, ◌≤◌, ◌++◌, ◌∷◌, [], Fits, w64, ◌≡◌, ◌<◌, ◌/◌, ◌⊎◌, ◌∙◌, ap, sym, subst, set, replicate, length, vec_len}
+use Rattle.std.proofs.Common.{vec_capacity, arith, rules}
 use Rattle.std.proofs.lemmas.List.{length-map}
 use Rattle.slab_layer.specs.declared.place.Place.TheVariants.{Home}
 use Rattle.slab_layer.specs.Slots.{Has}

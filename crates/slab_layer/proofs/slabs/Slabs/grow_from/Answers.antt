@@ -37,3 +37,6 @@ returns-in-Ok-grow-clause-no_page g c = λ wrong _ _ _. let never : ⊥ = cc in 
 
 pub returns-in-Err-clause-no_page : goal.returns-in-Err-clause-no_page
 returns-in-Err-clause-no_page g c = λ wrong _ _ _. let never : ⊥ = cc in never
+
+pub returns-in-Err-clause-memory : goal.returns-in-Err-clause-memory
+returns-in-Err-clause-memory g c = λ _. (c.in-Ok.span.first, c.in-Ok.ensures.free)
