@@ -3,3 +3,4 @@ pub mod Counting
 pub mod Ending
 pub mod Refusal
 pub mod Written
+pub mod Branches

@@ -52,7 +52,7 @@ pub(crate) fn copies_of(
 // Writes the stub, if an edge leads there: a call of no helper, and an exit, since a call goes on.
 fn write_stub(writer: &mut Writer, old: &Program, visits: &[Visit]) -> Result<(), AllocError>
     requires written { IsWritten old.now writer.old.code.items writer.old.of.items writer.old.count }
-    requires room { length writer.old.code.items ≤ 4096 }
+    requires room { length writer.old.code.items ≤ MAX_SLOTS }
     ensures written { OnOk result (IsWritten old.now writer.new.code.items writer.new.of.items writer.new.count) }
 {
     if !needs_stub(old, visits) {
@@ -87,7 +87,7 @@ fn write_visit(
     places: &mut Vec<usize>,
 ) -> Result<bool, AllocError>
     requires written { IsWritten old.now writer.old.code.items writer.old.of.items writer.old.count }
-    requires room { length writer.old.code.items ≤ 4096 }
+    requires room { length writer.old.code.items ≤ MAX_SLOTS }
     ensures written { OnOk result (IsWritten old.now writer.new.code.items writer.new.of.items writer.new.count) }
 {
     if visit >= visits.len() || visit >= places.len() {
@@ -120,7 +120,7 @@ fn write_copy(
     jump: usize,
 ) -> Result<bool, AllocError>
     requires written { IsWritten old.now writer.old.code.items writer.old.of.items writer.old.count }
-    requires room { length writer.old.code.items ≤ 4096 }
+    requires room { length writer.old.code.items ≤ MAX_SLOTS }
     ensures written { OnOk result (IsWritten old.now writer.new.code.items writer.new.of.items writer.new.count) }
 {
     // Read for what it promises: the program is well formed.
@@ -151,7 +151,7 @@ fn write_copy(
 // Writes a jump to a place, unless what is written next comes right before it.
 fn write_jump(writer: &mut Writer, old: &Program, place: usize) -> Result<(), AllocError>
     requires written { IsWritten old.now writer.old.code.items writer.old.of.items writer.old.count }
-    requires room { length writer.old.code.items ≤ 4096 }
+    requires room { length writer.old.code.items ≤ MAX_SLOTS }
     requires place { place < length writer.old.code.items }
     ensures written { OnOk result (IsWritten old.now writer.new.code.items writer.new.of.items writer.new.count) }
     ensures room { OnOk result (length writer.new.code.items ≤ 4097) }

@@ -14,12 +14,17 @@
 //! `AlwaysEnds`). Nothing is proved of the walk, which only chooses the copies: the writer is proved to write copies, `check` looks
 //! where their edges lead, and the verifier judges what was written.
 //!
-//! To be read in this order: `fault`, `queue`, `walk`, `order`, `writer`, `copies`, `check`, `unroll`.
+//! Of a program that isn't unrolled, [`long_loop::long_loop`] and [`known::known_at_end`] say what the walk knows, for a sentence.
+//!
+//! To be read in this order: `fault`, `queue`, `compared`, `walk`, `order`, `writer`, `copies`, `check`, `unroll`; `long_loop`, `known`.
 #![tactic(auto)]
 
 mod check;
+pub mod compared;
 mod copies;
 pub mod fault;
+pub mod known;
+pub mod long_loop;
 mod order;
 mod queue;
 pub mod unroll;

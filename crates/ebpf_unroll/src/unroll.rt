@@ -12,7 +12,7 @@ use crate::check::is_unrolled;
 use crate::copies::copies_of;
 use crate::fault::UnrollFault;
 use crate::order::order_of;
-use crate::walk::{back_edges, longest_loop, visits_of};
+use crate::walk::{Looping, back_edges, longest_loop, visits_of};
 use crate::writer::Writer;
 use ebpf_flow::check::check;
 use ebpf_flow::fault::FlowFault;
@@ -46,18 +46,24 @@ pub fn unroll(
     alloc: Global,
     program: &Program,
     decl: Decl,
-    rows: &[KindRow],
+    kinds: &[KindRow],
 ) -> Result<Unrolled, UnrollFault>
-    requires { AreRows rows.now }
+    requires { AreRows kinds.now }
     ensures ends { IfOk result (λ u. AlwaysEnds program.now u.verified) }
     ensures unrolled { IfOk result (λ u. IsUnrolled program.now u.verified.program (copied_in u.of.items)) }
     ensures all { IfOk result (λ u. length u.of.items ≡ length u.verified.program) }
     ensures declared { IfOk result (λ u. u.verified.decl ≡ decl) }
-    ensures kinds { IfOk result (λ u. u.verified.rows ≡ rows.now) }
-    ensures refused { IfErr result (IsUnrollFault program.now decl rows.now) }
+    ensures kinds { IfOk result (λ u. u.verified.rows ≡ kinds.now) }
+    ensures refused { IfErr result (IsUnrollFault program.now decl kinds.now) }
 {
     let back = back_edges(alloc, program)?;
-    let visits = visits_of(alloc, program, &back, decl, rows)?;
+    let looping = Looping {
+        program,
+        back: &back,
+        decl,
+        kinds,
+    };
+    let visits = visits_of(alloc, looping)?;
     let order = order_of(alloc, &visits)?;
     let Some(writer) = copies_of(alloc, program, &visits, &order)? else {
         return Err(UnrollFault::Unconfirmed);
@@ -80,7 +86,7 @@ pub fn unroll(
     if !is_unrolled(program, &new, &of) {
         return Err(UnrollFault::Unconfirmed);
     }
-    match accepted(alloc, new, decl, rows)? {
+    match accepted(alloc, new, decl, kinds)? {
         Some(verified) => Ok(Unrolled { verified, of }),
         None => Err(UnrollFault::Unconfirmed),
     }
@@ -91,10 +97,10 @@ fn accepted(
     alloc: Global,
     program: Program,
     decl: Decl,
-    rows: &[KindRow],
+    kinds: &[KindRow],
 ) -> Result<Option<Verified>, AllocError>
-    requires { AreRows rows.now }
-    ensures kept { IfOk result (λ found. IfSome found (λ s. s ≡ record { program = program; decl = decl; rows = rows.now })) }
+    requires { AreRows kinds.now }
+    ensures kept { IfOk result (λ found. IfSome found (λ s. s ≡ record { program = program; decl = decl; rows = kinds.now })) }
     ensures accepted { IfOk result (λ found. IfSome found IsAccepted) }
 {
     let flowed = match check(alloc, program) {
@@ -102,7 +108,7 @@ fn accepted(
         Err(FlowFault::Bad { .. }) => return Ok(None),
         Err(FlowFault::NoMemory) => return Err(AllocError),
     };
-    let verified = match verify(alloc, flowed, decl, rows) {
+    let verified = match verify(alloc, flowed, decl, kinds) {
         Ok(verified) => verified,
         Err(VerifyFault::Refused { .. }) => return Ok(None),
         Err(VerifyFault::NoMemory) => return Err(AllocError),

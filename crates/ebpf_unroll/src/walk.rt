@@ -7,8 +7,9 @@ ghost use Rattle.ebpf_verify.specs.Rules.{refusal};
 ghost use Rattle.ebpf_verify.specs.Verdict.{IsSlotFault};
 ghost use Rattle.ebpf_unroll.specs.Refusal.{IsUnrollFault};
 
+use crate::compared::Compared;
 use crate::fault::UnrollFault;
-use crate::queue::{Pending, Queue};
+use crate::queue::Queue;
 use ebpf_flow::edges::{Edges, fall_of, jump_of};
 use ebpf_insn::insn::Insn;
 use ebpf_insn::program::{MAX_SLOTS, Program};
@@ -22,20 +23,32 @@ use ebpf_verify::propagate::pass_on;
 use std::alloc::{AllocError, Global};
 use std::mem;
 
+/// A program with loops, and what its runs are judged by.
+#[derive(Clone, Copy)]
+pub(crate) struct Looping<'a> {
+    pub(crate) program: &'a Program,
+    /// Of each slot the last one that jumps back to it; 0 where none does.
+    pub(crate) back: &'a [usize],
+    pub(crate) decl: Decl,
+    pub(crate) kinds: &'a [KindRow],
+}
+
 /// A visit of a slot, which is a copy of its instruction: the later visits that its edges lead to, none where no run goes.
 #[derive(Clone, Copy)]
 pub(crate) struct Visit {
     pub(crate) slot: usize,
     pub(crate) fall: Option<usize>,
     pub(crate) jump: Option<usize>,
+    /// What its branch compares.
+    pub(crate) compared: Compared,
 }
 
-// How far the walk has come.
+/// How far the walk has come.
 #[derive(Drop)]
-struct Walk {
-    queue: Queue,
-    // Its edges have the numbers of copies.
-    visits: Vec<Visit>,
+pub(crate) struct Walk {
+    pub(crate) queue: Queue,
+    /// Their edges have the numbers of copies.
+    pub(crate) visits: Vec<Visit>,
     // The visit that made the copy of each number.
     visit_of: Vec<usize>,
 }
@@ -43,28 +56,34 @@ struct Walk {
 // A visit numbers the copies that its two edges may come to, and the first copy has number 0.
 const NUMBERS: usize = 2 * MAX_SLOTS + 1;
 
+impl Walk {
+    /// A walk that is yet to make its first visit.
+    pub(crate) fn new(alloc: Global, program: &Program) -> Result<Walk, AllocError> {
+        let mut walk = Walk {
+            queue: Queue::new(alloc, program.slots())?,
+            visits: Vec::with_capacity(alloc, program.slots())?,
+            visit_of: vec![in alloc; 0; NUMBERS]?,
+        };
+        walk.queue.add(0, 0, State::start(alloc)?)?;
+        Ok(walk)
+    }
+}
+
 /// The visits that a run may make, each before those that it leads to.
 ///
 /// # Errors
 /// `Flow` and `Refused` with the slot where the walk can't go on; `Long` where it comes to more than `MAX_SLOTS` visits.
-pub(crate) fn visits_of(
-    alloc: Global,
-    program: &Program,
-    back: &[usize],
-    decl: Decl,
-    rows: &[KindRow],
-) -> Result<Vec<Visit>, UnrollFault>
-    requires few { length rows.now ≤ 8 }
-    requires back { length back.now ≤ MAX_SLOTS }
-    ensures refused { IfErr result (IsUnrollFault program.now decl rows.now) }
+pub(crate) fn visits_of(alloc: Global, looping: Looping<'_>) -> Result<Vec<Visit>, UnrollFault>
+    requires few { length looping.kinds.now ≤ 8 }
+    requires back { length looping.back.now ≤ MAX_SLOTS }
+    ensures refused { IfErr result (IsUnrollFault looping.entry.program.now looping.entry.decl looping.entry.kinds.now) }
 {
-    let mut walk = Walk {
-        queue: Queue::new(alloc, program.slots())?,
-        visits: Vec::with_capacity(alloc, program.slots())?,
-        visit_of: vec![in alloc; 0; NUMBERS]?,
-    };
-    walk.queue.add(0, 0, State::start(alloc)?)?;
-    go_through(&mut walk, alloc, program, back, decl, rows)?;
+    let mut walk = Walk::new(alloc, looping.program)?;
+    go_through(alloc, &mut walk, looping, MAX_SLOTS)?;
+    if walk.queue.take(looping.back).is_some() {
+        let (slot, visits) = longest_loop(looping.back, &walk.visits);
+        return Err(UnrollFault::Long { slot, visits });
+    }
     let Walk {
         queue: _,
         mut visits,
@@ -82,50 +101,51 @@ fn led_to(visit_of: &[usize], number: Option<usize>) -> Option<usize> {
     visit_of.get(number?).copied()
 }
 
-// Visits what is pending until nothing is.
-fn go_through(
-    walk: &mut Walk,
+/// Visits what is pending until nothing is, or until that many visits are made.
+///
+/// # Errors
+/// `Flow` and `Refused` with the slot where the walk can't go on. The visits before are made.
+pub(crate) fn go_through(
     alloc: Global,
-    program: &Program,
-    back: &[usize],
-    decl: Decl,
-    rows: &[KindRow],
+    walk: &mut Walk,
+    looping: Looping<'_>,
+    most: usize,
 ) -> Result<(), UnrollFault>
-    requires few { length rows.now ≤ 8 }
-    requires back { length back.now ≤ MAX_SLOTS }
-    ensures refused { IfErr result (IsUnrollFault program.now decl rows.now) }
+    requires few { length looping.kinds.now ≤ 8 }
+    requires most { most ≤ MAX_SLOTS }
+    ensures refused { IfErr result (IsUnrollFault looping.entry.program.now looping.entry.decl looping.entry.kinds.now) }
 {
-    for visit in 0..MAX_SLOTS {
-        let Some((slot, pending)) = walk.queue.take(back) else {
+    for visit in 0..most {
+        let Some((slot, pending)) = walk.queue.take(looping.back) else {
             return Ok(());
         };
         if pending.number < walk.visit_of.len() {
             walk.visit_of[pending.number] = visit;
         }
-        visit_slot(walk, alloc, program, decl, rows, visit, slot, pending.state)?;
+        visit_slot(alloc, walk, looping, visit, slot, pending.state)?;
     }
-    if walk.queue.take(back).is_none() {
-        return Ok(());
-    }
-    let (slot, visits) = longest_loop(back, &walk.visits);
-    Err(UnrollFault::Long { slot, visits })
+    Ok(())
 }
 
 // Visits a slot: the rule of its instruction, and what that sends along its edges.
 fn visit_slot(
-    walk: &mut Walk,
     alloc: Global,
-    program: &Program,
-    decl: Decl,
-    rows: &[KindRow],
+    walk: &mut Walk,
+    looping: Looping<'_>,
     visit: usize,
     slot: usize,
     state: State,
 ) -> Result<(), UnrollFault>
-    requires few { length rows.now ≤ 8 }
+    requires few { length looping.kinds.now ≤ 8 }
     requires visit { visit < MAX_SLOTS }
-    ensures refused { IfErr result (IsUnrollFault program.now decl rows.now) }
+    ensures refused { IfErr result (IsUnrollFault looping.entry.program.now looping.entry.decl looping.entry.kinds.now) }
 {
+    let Looping {
+        program,
+        decl,
+        kinds,
+        ..
+    } = looping;
     if slot >= program.slots() {
         return Err(UnrollFault::Unconfirmed);
     }
@@ -140,7 +160,8 @@ fn visit_slot(
     }
     let fall = fall_of(*insn, slot);
     let jump = jump_of(*insn, slot);
-    let (fallen, jumped) = match sent_by(alloc, insn, decl, rows, visit, state) {
+    let compared = Compared::by(insn, &state);
+    let (fallen, jumped) = match sent_by(alloc, insn, decl, kinds, visit, state) {
         Ok(sent) => sent,
         Err(VerifyFault::Refused { slot: _, code }) => {
             return Err(UnrollFault::Refused {
@@ -153,22 +174,30 @@ fn visit_slot(
     };
     let jump = send_on(&mut walk.queue, jump, jumped, 2 * visit + 1)?;
     let fall = send_on(&mut walk.queue, fall, fallen, 2 * visit + 2)?;
-    walk.visits.push(Visit { slot, fall, jump })?;
+    walk.visits.push(Visit {
+        slot,
+        fall,
+        jump,
+        compared,
+    })?;
     Ok(())
 }
 
-// What the rule of an instruction sends on: where it falls, and where it jumps.
-fn sent_by(
+/// What the rule of an instruction sends on: where it falls, and where it jumps.
+///
+/// # Errors
+/// `Refused` where the rule refuses what is known, and `NoMemory` where an allocation failed.
+pub(crate) fn sent_by(
     alloc: Global,
     insn: &Insn,
     decl: Decl,
-    rows: &[KindRow],
+    kinds: &[KindRow],
     visit: usize,
     state: State,
 ) -> Result<(EntryState, EntryState), VerifyFault>
-    requires few { length rows.now ≤ 8 }
+    requires few { length kinds.now ≤ 8 }
     requires visit { visit < MAX_SLOTS }
-    ensures refused { IfErr result (IsSlotFault visit (refusal decl rows.now insn.now state)) }
+    ensures refused { IfErr result (IsSlotFault visit (refusal decl kinds.now insn.now state)) }
 {
     let mut entries = Vec::with_capacity(alloc, 2)?;
     entries.push(EntryState::Unreached)?;
@@ -177,7 +206,7 @@ fn sent_by(
         fall: Some(0),
         jump: Some(1),
     };
-    pass_on(decl, rows, insn, visit, state, edges, &mut entries)?;
+    pass_on(decl, kinds, insn, visit, state, edges, &mut entries)?;
     let fallen = mem::replace(&mut entries[0], EntryState::Unreached);
     let jumped = mem::replace(&mut entries[1], EntryState::Unreached);
     Ok((fallen, jumped))
