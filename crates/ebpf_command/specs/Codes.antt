@@ -1,11 +1,15 @@
 -- The codes of refusals, as they are written.
 use Rattle.std.specs.Prelude.{ℕ, List, codes}
 use Rattle.ebpf_insn.specs.declared.fault.DecodeCode.{DecodeCode}
-use Rattle.ebpf_insn.specs.declared.fault.DecodeCode.TheVariants.{WrongLength, UnknownOpcode, UnknownRegister, UnusedFieldSet, MissingSecondSlot, BadSecondSlot, UndefinedField, UnsupportedForm, ProgramTooLong}
+use Rattle.ebpf_insn.specs.declared.fault.DecodeCode.TheVariants.{WrongLength, UnknownOpcode, UnknownRegister, UnusedFieldSet, MissingSecondSlot}
+use Rattle.ebpf_insn.specs.declared.fault.DecodeCode.TheVariants.{BadSecondSlot, UndefinedField, UnsupportedForm, ProgramTooLong}
 use Rattle.ebpf_flow.specs.declared.fault.FlowCode.{FlowCode}
 use Rattle.ebpf_flow.specs.declared.fault.FlowCode.TheVariants.{JumpOutside, JumpIntoWide, JumpBackward, FallsOffEnd, Unreachable}
 use Rattle.ebpf_verify.specs.declared.fault.VerifyCode.{VerifyCode}
-use Rattle.ebpf_verify.specs.declared.fault.VerifyCode.TheVariants.{UnsetRegister, FramePointerWritten, PointerMisused, MovedTooFar, PointerCompared, OutsideStack, UnsetStack, OutsideContext, ContextWritten, OutsideObject, UntestedAnswer, PartialPointer, NumberAsAddress, UnknownHelper, WrongArgument, TooManyHeld, HeldAtExit, NoNumberReturned, PathsDiffer}
+use Rattle.ebpf_verify.specs.declared.fault.VerifyCode.TheVariants.{UnsetRegister, FramePointerWritten, PointerMisused, MovedTooFar}
+use Rattle.ebpf_verify.specs.declared.fault.VerifyCode.TheVariants.{PointerCompared, OutsideStack, UnsetStack, OutsideContext, ContextWritten}
+use Rattle.ebpf_verify.specs.declared.fault.VerifyCode.TheVariants.{OutsideObject, UntestedAnswer, PartialPointer, NumberAsAddress, UnknownHelper}
+use Rattle.ebpf_verify.specs.declared.fault.VerifyCode.TheVariants.{WrongArgument, TooManyHeld, HeldAtExit, NoNumberReturned, PathsDiffer}
 use Rattle.ebpf_command.specs.declared.codes.RefusalCode.{RefusalCode}
 use Rattle.ebpf_command.specs.declared.codes.RefusalCode.TheVariants.{Decode, Flow, Verify}
 

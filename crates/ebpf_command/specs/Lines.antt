@@ -1,7 +1,8 @@
 -- The line of a fault, as bytes, with numbers in decimal.
 use Rattle.std.specs.Prelude.{ℕ, ◌++◌, List, codes, decimal}
 use Rattle.ebpf_command.specs.declared.done.FaultCode.{FaultCode}
-use Rattle.ebpf_command.specs.declared.done.FaultCode.TheVariants.{InputTooLong, UnprintableByte, UnknownLine, BadNumber, BadHex, BadName, UndefinedName, SecondArena, WrongContextLength}
+use Rattle.ebpf_command.specs.declared.done.FaultCode.TheVariants.{InputTooLong, UnprintableByte, UnknownLine, BadNumber, BadHex, BadName}
+use Rattle.ebpf_command.specs.declared.done.FaultCode.TheVariants.{UndefinedName, SecondArena, WrongContextLength}
 
 abbrev pub fault_name : FaultCode → List ℕ
 fault_name InputTooLong = codes "S1"

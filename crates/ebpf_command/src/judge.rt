@@ -48,10 +48,10 @@ pub fn judge(
     alloc: Global,
     bytes: &[u8],
     decl: Decl,
-    rows: &[KindRow],
+    kinds: &[KindRow],
 ) -> Result<Judged, AllocError>
-    requires { AreRows rows.now }
-    ensures { IfOk result (IsJudged bytes.now decl rows.now) }
+    requires { AreRows kinds.now }
+    ensures { IfOk result (IsJudged bytes.now decl kinds.now) }
 {
-    Ok(Judged::of(examine(alloc, bytes, decl, rows)?))
+    Ok(Judged::of(examine(alloc, bytes, decl, kinds)?))
 }

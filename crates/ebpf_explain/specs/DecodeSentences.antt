@@ -1,7 +1,8 @@
 -- Why bytes are no program, as the sentence of a line.
 use Rattle.std.specs.Prelude.{ℕ, List, length, ◌++◌, codes, decimal, if◌then◌else◌, ◌==◌}
 use Rattle.ebpf_insn.specs.declared.fault.DecodeCode.{DecodeCode}
-use Rattle.ebpf_insn.specs.declared.fault.DecodeCode.TheVariants.{WrongLength, UnknownOpcode, UnknownRegister, UnusedFieldSet, MissingSecondSlot, BadSecondSlot, UndefinedField, UnsupportedForm, ProgramTooLong}
+use Rattle.ebpf_insn.specs.declared.fault.DecodeCode.TheVariants.{WrongLength, UnknownOpcode, UnknownRegister, UnusedFieldSet, MissingSecondSlot}
+use Rattle.ebpf_insn.specs.declared.fault.DecodeCode.TheVariants.{BadSecondSlot, UndefinedField, UnsupportedForm, ProgramTooLong}
 use Rattle.ebpf_explain.specs.Hex.{byte_digits, eight_digits}
 
 abbrev pub slot_text : ℕ → List ℕ

@@ -1,5 +1,6 @@
 -- What is lost where paths meet, as a line: what each path knew, and the join of them does not.
-use Rattle.std.specs.Prelude.{ℕ, zero, suc, ◌-◌, ◌*◌, ◌==◌, Bool, ◌&&◌, if◌then◌else◌, List, [], ◌∷◌, ◌++◌, length, codes, decimal, Option, Some, None, is_none, slice_get, unwrap_or}
+use Rattle.std.specs.Prelude.{ℕ, zero, suc, ◌-◌, ◌*◌, ◌==◌, Bool, ◌&&◌, if◌then◌else◌, List, [], ◌∷◌, ◌++◌, length, codes, decimal, Option, Some}
+use Rattle.std.specs.Prelude.{None, is_none, slice_get, unwrap_or}
 use Rattle.std.specs.List.{flat_map, position}
 use Rattle.ebpf_text.specs.Operands.{register_text}
 use Rattle.ebpf_state.specs.declared.value.Abs.{Abs}

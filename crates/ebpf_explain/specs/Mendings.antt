@@ -8,7 +8,10 @@ use Rattle.ebpf_state.specs.States.{register_of}
 use Rattle.ebpf_verify.specs.declared.decl.Decl.{Decl}
 use Rattle.ebpf_verify.specs.declared.decl.TheConstants.{MAX_CONTEXT}
 use Rattle.ebpf_verify.specs.declared.fault.VerifyCode.{VerifyCode}
-use Rattle.ebpf_verify.specs.declared.fault.VerifyCode.TheVariants.{UnsetRegister, FramePointerWritten, PointerMisused, MovedTooFar, PointerCompared, OutsideStack, UnsetStack, OutsideContext, ContextWritten, OutsideObject, UntestedAnswer, PartialPointer, NumberAsAddress, UnknownHelper, WrongArgument, TooManyHeld, HeldAtExit, NoNumberReturned, PathsDiffer}
+use Rattle.ebpf_verify.specs.declared.fault.VerifyCode.TheVariants.{UnsetRegister, FramePointerWritten, PointerMisused, MovedTooFar}
+use Rattle.ebpf_verify.specs.declared.fault.VerifyCode.TheVariants.{PointerCompared, OutsideStack, UnsetStack, OutsideContext, ContextWritten}
+use Rattle.ebpf_verify.specs.declared.fault.VerifyCode.TheVariants.{OutsideObject, UntestedAnswer, PartialPointer, NumberAsAddress, UnknownHelper}
+use Rattle.ebpf_verify.specs.declared.fault.VerifyCode.TheVariants.{WrongArgument, TooManyHeld, HeldAtExit, NoNumberReturned, PathsDiffer}
 use Rattle.ebpf_operation.specs.declared.helper.Helper.{Helper}
 use Rattle.ebpf_operation.specs.declared.helper.Helper.TheVariants.{New, Free, Emit, Swap}
 use Rattle.ebpf_operation.specs.Helpers.{helper_of}

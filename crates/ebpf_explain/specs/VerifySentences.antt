@@ -7,7 +7,10 @@ use Rattle.ebpf_state.specs.declared.kinds.KindRow.{KindRow}
 use Rattle.ebpf_state.specs.StateView.{StateView}
 use Rattle.ebpf_verify.specs.declared.decl.Decl.{Decl}
 use Rattle.ebpf_verify.specs.declared.fault.VerifyCode.{VerifyCode}
-use Rattle.ebpf_verify.specs.declared.fault.VerifyCode.TheVariants.{UnsetRegister, FramePointerWritten, PointerMisused, MovedTooFar, PointerCompared, OutsideStack, UnsetStack, OutsideContext, ContextWritten, OutsideObject, UntestedAnswer, PartialPointer, NumberAsAddress, UnknownHelper, WrongArgument, TooManyHeld, HeldAtExit, NoNumberReturned, PathsDiffer}
+use Rattle.ebpf_verify.specs.declared.fault.VerifyCode.TheVariants.{UnsetRegister, FramePointerWritten, PointerMisused, MovedTooFar}
+use Rattle.ebpf_verify.specs.declared.fault.VerifyCode.TheVariants.{PointerCompared, OutsideStack, UnsetStack, OutsideContext, ContextWritten}
+use Rattle.ebpf_verify.specs.declared.fault.VerifyCode.TheVariants.{OutsideObject, UntestedAnswer, PartialPointer, NumberAsAddress, UnknownHelper}
+use Rattle.ebpf_verify.specs.declared.fault.VerifyCode.TheVariants.{WrongArgument, TooManyHeld, HeldAtExit, NoNumberReturned, PathsDiffer}
 use Rattle.ebpf_explain.specs.Reads.{registers_read, answers_read, fault_with_reads, first_unset, first_answer}
 use Rattle.ebpf_explain.specs.Accesses.{access_of}
 use Rattle.ebpf_explain.specs.MemoryFaults.{access_with, outside, outside_object, context_written, number_as_address}

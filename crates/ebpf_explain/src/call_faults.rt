@@ -59,12 +59,12 @@ pub(crate) fn write_too_many_held(text: &mut String, held: usize) -> Result<(), 
 pub(crate) fn write_held_at_exit(
     text: &mut String,
     held: &[Held],
-    rows: &[KindRow],
+    kinds: &[KindRow],
 ) -> Result<(), AllocError>
-    ensures { OnOk result (string_bytes text.new ≡ string_bytes text.old ++ held_at_exit held.now rows.now) }
+    ensures { OnOk result (string_bytes text.new ≡ string_bytes text.old ++ held_at_exit held.now kinds.now) }
 {
     text.push_str("exits while holding objects,")?;
-    write_references(text, held, rows)
+    write_references(text, held, kinds)
 }
 
 // The result of the exit is no number.

@@ -32,10 +32,10 @@ pub(crate) const REGISTERS: [Reg; 11] = [
 ///
 /// # Errors
 /// It fails only where an allocation fails, and some of the words may be written then.
-pub fn write_known(text: &mut String, state: &State, rows: &[KindRow]) -> Result<(), AllocError>
-    ensures { OnOk result (string_bytes text.new ≡ string_bytes text.old ++ known_words state.now rows.now) }
+pub fn write_known(text: &mut String, state: &State, kinds: &[KindRow]) -> Result<(), AllocError>
+    ensures { OnOk result (string_bytes text.new ≡ string_bytes text.old ++ known_words state.now kinds.now) }
 {
     write_registers(text, state, &REGISTERS)?;
     write_stack(text, state)?;
-    write_references(text, state.references(), rows)
+    write_references(text, state.references(), kinds)
 }

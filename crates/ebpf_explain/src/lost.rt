@@ -2,7 +2,8 @@
 
 ghost use Rattle.std.specs.Prelude.{◌≡◌, ◌++◌, string_bytes, IfOk, OnOk, Some, slice_get};
 ghost use Rattle.std.specs.List.{flat_map};
-ghost use Rattle.ebpf_explain.specs.Lost.{apart_from, first_apart, first_without, headed, is_lost, known_by, known_from, known_there, line_with, lost_among, lost_at, lost_line, lost_places, other_than, place_name, slots_lost, value_at};
+ghost use Rattle.ebpf_explain.specs.Lost.{apart_from, first_apart, first_without, headed, is_lost, known_by, known_from, known_there, line_with};
+ghost use Rattle.ebpf_explain.specs.Lost.{lost_among, lost_at, lost_line, lost_places, other_than, place_name, slots_lost, value_at};
 ghost use Rattle.ebpf_explain.specs.declared.lost.Place.TheVariants.{Register};
 ghost use Rattle.ebpf_state.specs.Abstract.{is_unset, joined_value};
 

@@ -21,21 +21,21 @@ pub(crate) fn write_meeting(
     text: &mut String,
     slot: usize,
     comers: &[Comer],
-    rows: &[KindRow],
+    kinds: &[KindRow],
 ) -> Result<(), AllocError>
-    ensures { OnOk result (string_bytes text.new ≡ string_bytes text.old ++ meeting_sentence slot comers.now rows.now) }
+    ensures { OnOk result (string_bytes text.new ≡ string_bytes text.old ++ meeting_sentence slot comers.now kinds.now) }
 {
     write!(text, "  slot {slot} is where ")?;
-    write_paths(text, comers, rows)?;
+    write_paths(text, comers, kinds)?;
     text.push_str(": before they meet, free what only one of them holds\n")
 }
 
 // The first that comes, and the first that doesn't hold the same.
-fn write_paths(text: &mut String, comers: &[Comer], rows: &[KindRow]) -> Result<(), AllocError>
-    ensures { OnOk result (string_bytes text.new ≡ string_bytes text.old ++ paths_from rows.now (slice_get comers.now 0) comers.now) }
+fn write_paths(text: &mut String, comers: &[Comer], kinds: &[KindRow]) -> Result<(), AllocError>
+    ensures { OnOk result (string_bytes text.new ≡ string_bytes text.old ++ paths_from kinds.now (slice_get comers.now 0) comers.now) }
 {
     match comers.get(0) {
-        Some(first) => write_from(text, first, comers, rows),
+        Some(first) => write_from(text, first, comers, kinds),
         None => text.push_str(UNKNOWN),
     }
 }
@@ -45,12 +45,12 @@ fn write_from(
     text: &mut String,
     first: &Comer,
     comers: &[Comer],
-    rows: &[KindRow],
+    kinds: &[KindRow],
 ) -> Result<(), AllocError>
-    ensures { OnOk result (string_bytes text.new ≡ string_bytes text.old ++ paths_after rows.now first.now comers.now) }
+    ensures { OnOk result (string_bytes text.new ≡ string_bytes text.old ++ paths_after kinds.now first.now comers.now) }
 {
     match holds_other(first.state.references(), comers) {
-        Some(number) => write_both(text, first, comers, number, rows),
+        Some(number) => write_both(text, first, comers, number, kinds),
         None => text.push_str(UNKNOWN),
     }
 }
@@ -61,12 +61,12 @@ fn write_both(
     first: &Comer,
     comers: &[Comer],
     number: usize,
-    rows: &[KindRow],
+    kinds: &[KindRow],
 ) -> Result<(), AllocError>
-    ensures { OnOk result (string_bytes text.new ≡ string_bytes text.old ++ both_paths rows.now first.now (slice_get comers.now number)) }
+    ensures { OnOk result (string_bytes text.new ≡ string_bytes text.old ++ both_paths kinds.now first.now (slice_get comers.now number)) }
 {
     match comers.get(number) {
-        Some(other) => write_pair(text, first, other, rows),
+        Some(other) => write_pair(text, first, other, kinds),
         None => text.push_str(UNKNOWN),
     }
 }
@@ -76,13 +76,13 @@ fn write_pair(
     text: &mut String,
     first: &Comer,
     other: &Comer,
-    rows: &[KindRow],
+    kinds: &[KindRow],
 ) -> Result<(), AllocError>
-    ensures { OnOk result (string_bytes text.new ≡ string_bytes text.old ++ pair_text rows.now first.now other.now) }
+    ensures { OnOk result (string_bytes text.new ≡ string_bytes text.old ++ pair_text kinds.now first.now other.now) }
 {
-    write_coming(text, first, rows)?;
+    write_coming(text, first, kinds)?;
     text.push_str(", and ")?;
-    write_coming(text, other, rows)?;
+    write_coming(text, other, kinds)?;
     text.push_str(", meet")
 }
 
@@ -96,38 +96,38 @@ fn holds_other(held: &[Held], comers: &[Comer]) -> Option<usize>
 }
 
 // What comes, and what it holds.
-fn write_coming(text: &mut String, comer: &Comer, rows: &[KindRow]) -> Result<(), AllocError>
-    ensures { OnOk result (string_bytes text.new ≡ string_bytes text.old ++ coming rows.now comer.now) }
+fn write_coming(text: &mut String, comer: &Comer, kinds: &[KindRow]) -> Result<(), AllocError>
+    ensures { OnOk result (string_bytes text.new ≡ string_bytes text.old ++ coming kinds.now comer.now) }
 {
     write!(text, "slot {}, which ", comer.from)?;
-    write_holdings(text, comer.state.references(), rows)
+    write_holdings(text, comer.state.references(), kinds)
 }
 
 // What these references hold.
-fn write_holdings(text: &mut String, held: &[Held], rows: &[KindRow]) -> Result<(), AllocError>
-    ensures { OnOk result (string_bytes text.new ≡ string_bytes text.old ++ held_from rows.now (slice_get held.now 0) held.now) }
+fn write_holdings(text: &mut String, held: &[Held], kinds: &[KindRow]) -> Result<(), AllocError>
+    ensures { OnOk result (string_bytes text.new ≡ string_bytes text.old ++ held_from kinds.now (slice_get held.now 0) held.now) }
 {
     let Some(first) = held.get(0) else {
         return text.push_str("holds nothing");
     };
-    write_held(text, *first, rows)?;
-    write_others(text, &held[1..], rows)
+    write_held(text, *first, kinds)?;
+    write_others(text, &held[1..], kinds)
 }
 
 // What these references hold too.
-fn write_others(text: &mut String, held: &[Held], rows: &[KindRow]) -> Result<(), AllocError>
-    ensures { OnOk result (string_bytes text.new ≡ string_bytes text.old ++ flat_map (next_held rows.now) held.now) }
+fn write_others(text: &mut String, held: &[Held], kinds: &[KindRow]) -> Result<(), AllocError>
+    ensures { OnOk result (string_bytes text.new ≡ string_bytes text.old ++ flat_map (next_held kinds.now) held.now) }
 {
     for reference in held {
-        write_next(text, *reference, rows)?;
+        write_next(text, *reference, kinds)?;
     }
     Ok(())
 }
 
 // What one more reference holds.
-fn write_next(text: &mut String, reference: Held, rows: &[KindRow]) -> Result<(), AllocError>
-    ensures { OnOk result (string_bytes text.new ≡ string_bytes text.old ++ next_held rows.now reference) }
+fn write_next(text: &mut String, reference: Held, kinds: &[KindRow]) -> Result<(), AllocError>
+    ensures { OnOk result (string_bytes text.new ≡ string_bytes text.old ++ next_held kinds.now reference) }
 {
     text.push_str(", ")?;
-    write_held(text, reference, rows)
+    write_held(text, reference, kinds)
 }

@@ -55,29 +55,29 @@ pub(crate) fn write_outside_object(
     access: Access,
     state: &State,
     fault: &str,
-    rows: &[KindRow],
+    kinds: &[KindRow],
 ) -> Result<(), AllocError>
-    ensures { OnOk result (string_bytes text.new ≡ string_bytes text.old ++ outside_object access state.now fault.now rows.now) }
+    ensures { OnOk result (string_bytes text.new ≡ string_bytes text.old ++ outside_object access state.now fault.now kinds.now) }
 {
-    let size = size_behind(rows, state, state.reg(access.base));
+    let size = size_behind(kinds, state, state.reg(access.base));
     write_outside(text, access, state, fault, size)
 }
 
 // How many bytes the object has that a value points to, where that is known.
-pub(crate) fn size_behind(rows: &[KindRow], state: &State, value: Abs) -> Option<u32>
-    ensures { result ≡ size_behind rows.now state.now value }
+pub(crate) fn size_behind(kinds: &[KindRow], state: &State, value: Abs) -> Option<u32>
+    ensures { result ≡ size_behind kinds.now state.now value }
 {
     match value {
-        Abs::Ob(call, _, _) => size_of_kind(rows, state.kind(call)),
+        Abs::Ob(call, _, _) => size_of_kind(kinds, state.kind(call)),
         _ => None,
     }
 }
 
 // How many bytes an object of a kind has, where there is a row for it.
-fn size_of_kind(rows: &[KindRow], kind: Option<u8>) -> Option<u32>
-    ensures { result ≡ size_of_kind rows.now kind }
+fn size_of_kind(kinds: &[KindRow], kind: Option<u8>) -> Option<u32>
+    ensures { result ≡ size_of_kind kinds.now kind }
 {
-    match rows.get(kind? as usize) {
+    match kinds.get(kind? as usize) {
         Some(row) => Some(row.size),
         None => None,
     }

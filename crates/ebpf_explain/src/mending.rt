@@ -24,9 +24,9 @@ pub(crate) fn write_mending(
     state: &State,
     code: VerifyCode,
     decl: Decl,
-    rows: &[KindRow],
+    kinds: &[KindRow],
 ) -> Result<(), AllocError>
-    ensures { OnOk result (string_bytes text.new ≡ string_bytes text.old ++ mending insn.now state.now code decl rows.now) }
+    ensures { OnOk result (string_bytes text.new ≡ string_bytes text.old ++ mending insn.now state.now code decl kinds.now) }
 {
     match code {
         VerifyCode::OutsideStack => write_within(text, access_of(insn), state, STACK, 0),
@@ -34,7 +34,7 @@ pub(crate) fn write_mending(
             let context = ends_of(decl.context);
             write_within(text, access_of(insn), state, context, MAX_CONTEXT)
         }
-        VerifyCode::OutsideObject => write_within_object(text, access_of(insn), state, rows),
+        VerifyCode::OutsideObject => write_within_object(text, access_of(insn), state, kinds),
         _ => text.push_str(plain_mending(insn, code)),
     }
 }
@@ -44,11 +44,11 @@ fn write_within_object(
     text: &mut String,
     access: Access,
     state: &State,
-    rows: &[KindRow],
+    kinds: &[KindRow],
 ) -> Result<(), AllocError>
-    ensures { OnOk result (string_bytes text.new ≡ string_bytes text.old ++ within_object access state.now rows.now) }
+    ensures { OnOk result (string_bytes text.new ≡ string_bytes text.old ++ within_object access state.now kinds.now) }
 {
-    let size = size_behind(rows, state, state.reg(access.base)).unwrap_or(0);
+    let size = size_behind(kinds, state, state.reg(access.base)).unwrap_or(0);
     write_within(text, access, state, ends_of(size), 0)
 }
 

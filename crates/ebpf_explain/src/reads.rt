@@ -1,7 +1,8 @@
 //! The registers that an instruction reads, and what is known of them in words. Writing fails only where an allocation fails.
 
 ghost use Rattle.std.specs.Prelude.{◌≡◌, ◌∷◌, ◌++◌, string_bytes, OnOk};
-ghost use Rattle.ebpf_explain.specs.Reads.{registers_of, registers_in, operands_read, arguments_read, registers_read, answers_in, answers_read, known_of, fault_with_reads};
+ghost use Rattle.ebpf_explain.specs.Reads.{registers_of, registers_in, operands_read, arguments_read, registers_read, answers_in, answers_read};
+ghost use Rattle.ebpf_explain.specs.Reads.{known_of, fault_with_reads};
 ghost use Rattle.ebpf_explain.specs.Reads.{unset_or, first_unset, answer_or, first_answer};
 
 use crate::registers::write_registers;

@@ -12,31 +12,31 @@ use std::alloc::AllocError;
 pub(crate) fn write_references(
     text: &mut String,
     references: &[Held],
-    rows: &[KindRow],
+    kinds: &[KindRow],
 ) -> Result<(), AllocError>
-    ensures { OnOk result (string_bytes text.new ≡ string_bytes text.old ++ flat_map (held_word rows.now) references.now) }
+    ensures { OnOk result (string_bytes text.new ≡ string_bytes text.old ++ flat_map (held_word kinds.now) references.now) }
 {
     for reference in references {
-        write_reference(text, *reference, rows)?;
+        write_reference(text, *reference, kinds)?;
     }
     Ok(())
 }
 
 // The word of a reference.
-fn write_reference(text: &mut String, reference: Held, rows: &[KindRow]) -> Result<(), AllocError>
-    ensures { OnOk result (string_bytes text.new ≡ string_bytes text.old ++ held_word rows.now reference) }
+fn write_reference(text: &mut String, reference: Held, kinds: &[KindRow]) -> Result<(), AllocError>
+    ensures { OnOk result (string_bytes text.new ≡ string_bytes text.old ++ held_word kinds.now reference) }
 {
     text.push_str("  ")?;
-    write_held(text, reference, rows)
+    write_held(text, reference, kinds)
 }
 
 // What a reference holds. One that was not compared with null yet may be of no object.
 pub(crate) fn write_held(
     text: &mut String,
     reference: Held,
-    rows: &[KindRow],
+    kinds: &[KindRow],
 ) -> Result<(), AllocError>
-    ensures { OnOk result (string_bytes text.new ≡ string_bytes text.old ++ held_text rows.now reference) }
+    ensures { OnOk result (string_bytes text.new ≡ string_bytes text.old ++ held_text kinds.now reference) }
 {
     if reference.tested {
         text.push_str("holds ")?;
@@ -44,15 +44,15 @@ pub(crate) fn write_held(
         text.push_str("may hold ")?;
     }
     write!(text, "{} (", reference.call)?;
-    write_kind(text, reference.kind, rows)?;
+    write_kind(text, reference.kind, kinds)?;
     text.push_str(")")
 }
 
 // The name of a kind, or its number where there is no row for it.
-fn write_kind(text: &mut String, kind: u8, rows: &[KindRow]) -> Result<(), AllocError>
-    ensures { OnOk result (string_bytes text.new ≡ string_bytes text.old ++ kind_text rows.now kind) }
+fn write_kind(text: &mut String, kind: u8, kinds: &[KindRow]) -> Result<(), AllocError>
+    ensures { OnOk result (string_bytes text.new ≡ string_bytes text.old ++ kind_text kinds.now kind) }
 {
-    match rows.get(kind as usize) {
+    match kinds.get(kind as usize) {
         Some(row) => text.push_str(row.name),
         None => write!(text, "{kind}"),
     }

@@ -8,8 +8,12 @@ use ebpf_range::range::Range;
 use ebpf_state::value::Abs;
 use std::alloc::AllocError;
 
-// What is known of a value. Nothing is written of one that is not set.
-pub(crate) fn write_value(text: &mut String, value: Abs) -> Result<(), AllocError>
+/// Writes after a text what is known of a value: the numbers that it may be, or what it points to and how far into that. Nothing is written
+/// of one that is not set.
+///
+/// # Errors
+/// It fails only where an allocation fails, and some of the words may be written then.
+pub fn write_value(text: &mut String, value: Abs) -> Result<(), AllocError>
     ensures { OnOk result (string_bytes text.new ≡ string_bytes text.old ++ value_text value) }
 {
     match value {

@@ -35,14 +35,14 @@ pub fn write_verify_sentence(
     state: &State,
     code: VerifyCode,
     decl: Decl,
-    rows: &[KindRow],
+    kinds: &[KindRow],
 ) -> Result<(), AllocError>
-    ensures { OnOk result (string_bytes text.new ≡ string_bytes text.old ++ verify_sentence slot insn.now state.now code decl rows.now) }
+    ensures { OnOk result (string_bytes text.new ≡ string_bytes text.old ++ verify_sentence slot insn.now state.now code decl kinds.now) }
 {
     write!(text, "  slot {slot} ")?;
-    write_fault(text, insn, state, code, decl, rows)?;
+    write_fault(text, insn, state, code, decl, kinds)?;
     text.push_str(": ")?;
-    write_mending(text, insn, state, code, decl, rows)?;
+    write_mending(text, insn, state, code, decl, kinds)?;
     text.push_str("\n")
 }
 
@@ -53,9 +53,9 @@ fn write_fault(
     state: &State,
     code: VerifyCode,
     decl: Decl,
-    rows: &[KindRow],
+    kinds: &[KindRow],
 ) -> Result<(), AllocError>
-    ensures { OnOk result (string_bytes text.new ≡ string_bytes text.old ++ fault insn.now state.now code decl rows.now) }
+    ensures { OnOk result (string_bytes text.new ≡ string_bytes text.old ++ fault insn.now state.now code decl kinds.now) }
 {
     match code {
         VerifyCode::UnsetRegister => write_unset_register(
@@ -103,7 +103,7 @@ fn write_fault(
             access_of(insn),
             state,
             ", but the object has ",
-            rows,
+            kinds,
         ),
         VerifyCode::UntestedAnswer => write_unknown_answer(
             text,
@@ -124,7 +124,7 @@ fn write_fault(
             insn,
         ),
         VerifyCode::TooManyHeld => write_too_many_held(text, state.held()),
-        VerifyCode::HeldAtExit => write_held_at_exit(text, state.references(), rows),
+        VerifyCode::HeldAtExit => write_held_at_exit(text, state.references(), kinds),
         VerifyCode::NoNumberReturned => write_no_number_at_exit(text, state),
         VerifyCode::PathsDiffer => text.push_str(
             "is where paths meet that hold different objects, or of which only one has compared an answer",

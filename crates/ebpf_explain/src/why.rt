@@ -25,10 +25,10 @@ pub fn write_why(
     bytes: &[u8],
     examined: &Examined,
     decl: Decl,
-    rows: &[KindRow],
+    kinds: &[KindRow],
 ) -> Result<(), AllocError>
-    requires { AreRows rows.now }
-    ensures { OnOk result (string_bytes text.new ≡ string_bytes text.old ++ why_of bytes.now decl rows.now examined.now) }
+    requires { AreRows kinds.now }
+    ensures { OnOk result (string_bytes text.new ≡ string_bytes text.old ++ why_of bytes.now decl kinds.now examined.now) }
 {
     match examined {
         Examined::Undecoded { slot, code } => {
@@ -39,7 +39,7 @@ pub fn write_why(
             slot,
             code,
         } => write_misled(alloc, text, program, *slot as usize, *code),
-        Examined::Refused { flowed, .. } => write_why_flowed(alloc, text, flowed, decl, rows),
+        Examined::Refused { flowed, .. } => write_why_flowed(alloc, text, flowed, decl, kinds),
         Examined::Accepted(_) => Ok(()),
     }
 }
@@ -50,12 +50,12 @@ fn write_why_flowed(
     text: &mut String,
     flowed: &Flowed,
     decl: Decl,
-    rows: &[KindRow],
+    kinds: &[KindRow],
 ) -> Result<(), AllocError>
-    requires { AreRows rows.now }
-    ensures { OnOk result (string_bytes text.new ≡ string_bytes text.old ++ why_verified (record { program = flowed.now; decl = decl; rows = rows.now })) }
+    requires { AreRows kinds.now }
+    ensures { OnOk result (string_bytes text.new ≡ string_bytes text.old ++ why_verified (record { program = flowed.now; decl = decl; rows = kinds.now })) }
 {
-    let trace = Trace::of(alloc, flowed, decl, rows)?;
+    let trace = Trace::of(alloc, flowed, decl, kinds)?;
     let Some((slot, code)) = trace.refusal else {
         return Ok(());
     };

@@ -1,4 +1,4 @@
--- What is known of a program's blocks before any is written.
+-- What is known of a program before any of its blocks is written.
 use Rattle.std.specs.Prelude.{◌≡◌, ◌<◌, ℕ, List, length, slice_index_or, Bool, false, Option}
 use Rattle.ebpf_insn.specs.declared.insn.Insn.{Insn}
 use Rattle.ebpf_verify.specs.declared.entry.EntryState.{EntryState}

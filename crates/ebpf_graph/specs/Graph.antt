@@ -1,5 +1,6 @@
 -- The graph of a program's flow in the DOT language: a node for each basic block, and the edges that leave it.
-use Rattle.std.specs.Prelude.{ℕ, zero, suc, ◌++◌, List, [], length, Bool, true, false, if◌then◌else◌, ◌&&◌, ◌==◌, nat_le, codes, decimal, Option, Some, None, slice_get}
+use Rattle.std.specs.Prelude.{ℕ, zero, suc, ◌++◌, List, [], length, Bool, true, false, if◌then◌else◌, ◌&&◌, ◌==◌, nat_le, codes, decimal, Option}
+use Rattle.std.specs.Prelude.{Some, None, slice_get}
 use Rattle.ebpf_insn.specs.declared.insn.Insn.{Insn}
 use Rattle.ebpf_insn.specs.declared.insn.Insn.TheVariants as insn
 use Rattle.ebpf_insn.specs.Program.{insn_at}

@@ -10,6 +10,13 @@ use ebpf_flow::edges::Edges;
 use ebpf_flow::flowed::Flowed;
 use std::alloc::{AllocError, Global};
 
+// A block, by its first and its last slot.
+#[derive(Clone, Copy)]
+pub(crate) struct Block {
+    pub first: usize,
+    pub last: usize,
+}
+
 // A flag for each slot: whether a block begins there. It fails only where an allocation fails.
 pub(crate) fn block_starts(alloc: Global, flowed: &Flowed) -> Result<Vec<bool>, AllocError>
     ensures len { IfOk result (λ begins. length begins.items ≡ length flowed.now) }

@@ -4,28 +4,28 @@ ghost use Rattle.std.specs.Prelude.{◌≡◌, ◌++◌, string_bytes, IfOk, OnO
 ghost use Rattle.ebpf_explain.specs.Losses.{lost_between};
 ghost use Rattle.ebpf_graph.specs.Graph.{edge_text, edge_texts, fall_condition, jump_condition, label};
 
+use crate::blocks::Block;
 use crate::condition::write_condition;
 use ebpf_explain::losses::{Loss, write_lost_between};
 use ebpf_flow::edges::Edges;
 use ebpf_insn::insn::Insn;
 use std::alloc::{AllocError, Global};
 
-// The edges of the instruction that ends the block that begins at a slot.
+// The edges of the instruction that ends a block.
 pub(crate) fn write_edges(
     alloc: Global,
     text: &mut String,
     losses: &[Loss],
-    first: usize,
-    last: usize,
+    block: Block,
     insn: Insn,
     edges: Edges,
 ) -> Result<(), AllocError>
-    ensures { OnOk result (string_bytes text.new ≡ string_bytes text.old ++ edge_texts losses.now first last insn edges) }
+    ensures { OnOk result (string_bytes text.new ≡ string_bytes text.old ++ edge_texts losses.now block.first block.last insn edges) }
 {
     let taken = jump_condition(alloc, insn)?;
     let fall = fall_condition(insn);
-    write_edge(alloc, text, losses, first, last, edges.fall, fall)?;
-    write_edge(alloc, text, losses, first, last, edges.jump, taken.as_str())
+    write_edge(alloc, text, losses, block, edges.fall, fall)?;
+    write_edge(alloc, text, losses, block, edges.jump, taken.as_str())
 }
 
 // An edge, if there is one, with a condition, and with what is lost where it leads.
@@ -33,18 +33,18 @@ fn write_edge(
     alloc: Global,
     text: &mut String,
     losses: &[Loss],
-    first: usize,
-    last: usize,
+    block: Block,
     edge: Option<u16>,
     condition: &str,
 ) -> Result<(), AllocError>
-    ensures { OnOk result (string_bytes text.new ≡ string_bytes text.old ++ edge_text losses.now first last edge condition.now) }
+    ensures { OnOk result (string_bytes text.new ≡ string_bytes text.old ++ edge_text losses.now block.first block.last edge condition.now) }
 {
     let Some(to) = edge else {
         return Ok(());
     };
     let mut lost = String::new(alloc);
-    write_lost_between(&mut lost, losses, last, to as usize)?;
+    write_lost_between(&mut lost, losses, block.last, to as usize)?;
+    let first = block.first;
     write!(text, "  n{first} -> n{to}")?;
     write_label(text, condition, lost.as_str())?;
     text.push_str(";\n")

@@ -13,27 +13,27 @@ pub(crate) fn write_known_before(
     text: &mut String,
     asked: bool,
     entries: &[EntryState],
-    rows: &[KindRow],
+    kinds: &[KindRow],
     slot: usize,
 ) -> Result<(), AllocError>
-    ensures { OnOk result (string_bytes text.new ≡ string_bytes text.old ++ known_before asked rows.now (slice_get entries.now slot)) }
+    ensures { OnOk result (string_bytes text.new ≡ string_bytes text.old ++ known_before asked kinds.now (slice_get entries.now slot)) }
 {
     if !asked {
         return Ok(());
     }
     match entries.get(slot) {
         None => Ok(()),
-        Some(entry) => write_entry(text, entry, rows),
+        Some(entry) => write_entry(text, entry, kinds),
     }
 }
 
 // What is known of the runs that come there.
-fn write_entry(text: &mut String, entry: &EntryState, rows: &[KindRow]) -> Result<(), AllocError>
-    ensures { OnOk result (string_bytes text.new ≡ string_bytes text.old ++ entry_text rows.now entry.now) }
+fn write_entry(text: &mut String, entry: &EntryState, kinds: &[KindRow]) -> Result<(), AllocError>
+    ensures { OnOk result (string_bytes text.new ≡ string_bytes text.old ++ entry_text kinds.now entry.now) }
 {
     match entry {
         EntryState::Known(state) => {
-            write_known(text, state, rows)?;
+            write_known(text, state, kinds)?;
             text.push_str("\\l")
         }
         EntryState::Unreached => text.push_str("  never entered\\l"),

@@ -9,7 +9,7 @@ ghost use Rattle.ebpf_graph.specs.Blocks.{first_of_block};
 ghost use Rattle.ebpf_graph.specs.Drawn.{AreBegins, AreDrawn};
 ghost use Rattle.ebpf_graph.specs.Graph.{closing, graph_of, losses_below, slot_graph};
 
-use crate::blocks::{block_starts, ends_before};
+use crate::blocks::{Block, block_starts, ends_before};
 use crate::edges::write_edges;
 use crate::entry::write_known_before;
 use crate::node::{write_label_line, write_mark, write_node_end, write_opening};
@@ -34,26 +34,34 @@ pub fn write_graph(
 ) -> Result<(), AllocError>
     ensures { OnOk result (string_bytes text.new ≡ string_bytes text.old ++ graph_of states trace.now.flowed.now trace.now.entries.items trace.now.kinds.now refused) }
 {
-    let drawn = what_is_drawn(alloc, trace, states)?;
+    let drawn = what_is_drawn(alloc, trace, refused, states)?;
     text.push_str("digraph program {\n  node [shape=box, fontname=monospace];\n")?;
-    write_blocks(alloc, text, trace, &drawn, refused)?;
+    write_blocks(alloc, text, trace, &drawn)?;
     text.push_str("}\n")
 }
 
-// What is known of a program's blocks before any is written.
+// What is known of a program before any of its blocks is written.
 #[derive(Drop)]
 struct Drawn {
     // Whether a block begins at each slot.
     begins: Vec<bool>,
     // What is lost where blocks begin, if that is asked for.
     losses: Vec<Loss>,
+    // The slot that is refused, if one is.
+    refused: Option<u16>,
     // Whether the states are asked for.
     states: bool,
 }
 
-// What is known of the blocks. It fails only where an allocation fails.
-fn what_is_drawn(alloc: Global, trace: &Trace, states: bool) -> Result<Drawn, AllocError>
+// What is known of the program. It fails only where an allocation fails.
+fn what_is_drawn(
+    alloc: Global,
+    trace: &Trace,
+    refused: Option<u16>,
+    states: bool,
+) -> Result<Drawn, AllocError>
     ensures drawn { IfOk result (AreDrawn trace.now.flowed.now trace.now.entries.items) }
+    ensures refused { IfOk result (λ drawn. drawn.refused ≡ refused) }
     ensures states { IfOk result (λ drawn. drawn.states ≡ states) }
 {
     let begins = block_starts(alloc, trace.flowed)?;
@@ -64,6 +72,7 @@ fn what_is_drawn(alloc: Global, trace: &Trace, states: bool) -> Result<Drawn, Al
     Ok(Drawn {
         begins,
         losses,
+        refused,
         states,
     })
 }
@@ -108,15 +117,14 @@ fn write_blocks(
     text: &mut String,
     trace: &Trace,
     drawn: &Drawn,
-    refused: Option<u16>,
 ) -> Result<(), AllocError>
     requires { AreDrawn trace.now.flowed.now trace.now.entries.items drawn.now }
-    ensures { OnOk result (string_bytes text.new ≡ string_bytes text.old ++ texts_below (length trace.now.flowed.now) (slot_graph drawn.now.states trace.now.flowed.now trace.now.entries.items trace.now.kinds.now refused)) }
+    ensures { OnOk result (string_bytes text.new ≡ string_bytes text.old ++ texts_below (length trace.now.flowed.now) (slot_graph drawn.now.states trace.now.flowed.now trace.now.entries.items trace.now.kinds.now drawn.now.refused)) }
 {
     let mut first = 0;
     for slot in 0..trace.flowed.program().slots() {
         first = first_slot(drawn.begins[slot], slot, first);
-        write_slot(alloc, text, trace, drawn, refused, first, slot)?;
+        write_slot(alloc, text, trace, drawn, first, slot)?;
     }
     Ok(())
 }
@@ -134,14 +142,13 @@ fn write_slot(
     text: &mut String,
     trace: &Trace,
     drawn: &Drawn,
-    refused: Option<u16>,
     first: usize,
     slot: usize,
 ) -> Result<(), AllocError>
     requires drawn { AreDrawn trace.now.flowed.now trace.now.entries.items drawn.now }
     requires inside { slot < length trace.now.flowed.now }
     requires first { first ≡ first_of_block trace.now.flowed.now slot }
-    ensures { OnOk result (string_bytes text.new ≡ string_bytes text.old ++ slot_graph drawn.now.states trace.now.flowed.now trace.now.entries.items trace.now.kinds.now refused slot) }
+    ensures { OnOk result (string_bytes text.new ≡ string_bytes text.old ++ slot_graph drawn.now.states trace.now.flowed.now trace.now.entries.items trace.now.kinds.now drawn.now.refused slot) }
 {
     let Some(insn) = trace.flowed.program().at(slot) else {
         return Ok(());
@@ -151,24 +158,22 @@ fn write_slot(
     write_opening(text, begins, slot)?;
     let asked = drawn.states && begins;
     write_known_before(text, asked, &trace.entries, trace.kinds, slot)?;
-    write_mark(text, refused, slot)?;
+    write_mark(text, drawn.refused, slot)?;
     write_label_line(alloc, text, slot, insn)?;
     let ends = ends_before(&drawn.begins, edges.fall);
     let end = End {
         ends,
-        first,
-        last: slot,
+        block: Block { first, last: slot },
         insn: *insn,
         edges,
     };
-    write_closing(alloc, text, &drawn.losses, refused, end)
+    write_closing(alloc, text, &drawn.losses, drawn.refused, end)
 }
 
-// An instruction, whether its block ends with it, and the first slot of that.
+// An instruction, the block up to it, and whether that ends with it.
 struct End {
     ends: bool,
-    first: usize,
-    last: usize,
+    block: Block,
     insn: Insn,
     edges: Edges,
 }
@@ -181,18 +186,17 @@ fn write_closing(
     refused: Option<u16>,
     end: End,
 ) -> Result<(), AllocError>
-    ensures { OnOk result (string_bytes text.new ≡ string_bytes text.old ++ closing end.ends losses.now refused end.first end.last end.insn end.edges) }
+    ensures { OnOk result (string_bytes text.new ≡ string_bytes text.old ++ closing end.ends losses.now refused end.block.first end.block.last end.insn end.edges) }
 {
     let End {
         ends,
-        first,
-        last,
+        block,
         insn,
         edges,
     } = end;
     if !ends {
         return Ok(());
     }
-    write_node_end(text, refused, first, last)?;
-    write_edges(alloc, text, losses, first, last, insn, edges)
+    write_node_end(text, refused, block)?;
+    write_edges(alloc, text, losses, block, insn, edges)
 }

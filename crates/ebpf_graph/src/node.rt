@@ -3,6 +3,7 @@
 ghost use Rattle.std.specs.Prelude.{◌≡◌, ◌++◌, string_bytes, OnOk};
 ghost use Rattle.ebpf_graph.specs.Graph.{is_among, is_at, label_line, mark, node_end, opening};
 
+use crate::blocks::Block;
 use ebpf_insn::insn::Insn;
 use ebpf_text::line::line;
 use std::alloc::{AllocError, Global};
@@ -51,16 +52,15 @@ pub(crate) fn write_label_line(
     }
 }
 
-// The end of the node of these slots.
+// The end of the node of a block.
 pub(crate) fn write_node_end(
     text: &mut String,
     refused: Option<u16>,
-    first: usize,
-    last: usize,
+    block: Block,
 ) -> Result<(), AllocError>
-    ensures { OnOk result (string_bytes text.new ≡ string_bytes text.old ++ node_end (is_among refused first last)) }
+    ensures { OnOk result (string_bytes text.new ≡ string_bytes text.old ++ node_end (is_among refused block.first block.last)) }
 {
-    if is_among(refused, first, last) {
+    if is_among(refused, block) {
         text.push_str("\", color=red];\n")
     } else {
         text.push_str("\"];\n")
@@ -77,12 +77,12 @@ fn is_at(refused: Option<u16>, slot: usize) -> bool
     }
 }
 
-// The refused slot is one of these.
-fn is_among(refused: Option<u16>, first: usize, last: usize) -> bool
-    ensures { result ≡ is_among refused first last }
+// The refused slot is one of a block.
+fn is_among(refused: Option<u16>, block: Block) -> bool
+    ensures { result ≡ is_among refused block.first block.last }
 {
     match refused {
         None => false,
-        Some(refused) => first <= refused as usize && refused as usize <= last,
+        Some(refused) => block.first <= refused as usize && refused as usize <= block.last,
     }
 }

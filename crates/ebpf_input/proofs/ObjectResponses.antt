@@ -2,7 +2,6 @@
 use Rattle.std.proofs.Common.{◌≡◌, inl, inr, ℕ, ◌<◌, List, length, refl, subst, arith}
 use Rattle.std.proofs.lemmas.List.{length-take-le}
 use Rattle.ebpf_command.specs.declared.format.Format.{Format}
-use Rattle.ebpf_object_file.specs.declared.object_fault.ObjectFault.{ObjectFault}
 use Rattle.ebpf_command.specs.Input.{read_of}
 use Rattle.ebpf_command.specs.Response.{Response}
 use Rattle.ebpf_command.specs.Writing.{Responding}
@@ -11,7 +10,7 @@ use Rattle.ebpf_input.specs.declared.ask.Input.{Input}
 use Rattle.ebpf_input.specs.declared.ask.Input.TheVariants.{Program, Object}
 use Rattle.ebpf_input.specs.declared.form.Form.{Form}
 use Rattle.ebpf_input.specs.declared.form.Form.TheVariants.{Raw}
-use Rattle.ebpf_input.specs.ObjectText.{IsTaken, IsTakenFault, RespondsFault, RespondsObject, RespondsInput}
+use Rattle.ebpf_input.specs.ObjectText.{IsTaken, RespondsObject, RespondsInput}
 
 pub read_long : (file : List ℕ) → 1048577 < length file → length (read_of file) ≡ 1048577
 read_long file long = length-take-le 1048577 file (omega (arith, long))
@@ -28,16 +27,6 @@ pub object_cuts : (format : Format) (P : Responding) → CutsLong P → (name : 
 object_cuts format P cuts name file response long (inl k) = taken_long format P cuts name file k.0 response long k.1 k.2
 object_cuts format P cuts name file response long (inr k) =
     let short = k.1.0 in let read = read_long file long in absurd (omega (arith, short, read))
-
--- the response to the slots that are taken
-pub of_taken : (format : Format) (P : Responding) (name : List ℕ) (file bytes : List ℕ) (response : Response) → IsTaken name file bytes
-    → P bytes response → RespondsObject format P name file response
-of_taken format P name file bytes response is h = inl (bytes, is, h)
-
--- or why none are
-pub of_fault : (format : Format) (P : Responding) (name : List ℕ) (file : List ℕ) (e : ObjectFault) (response : Response) → IsTakenFault name file e
-    → RespondsFault format file e response → RespondsObject format P name file response
-of_fault format P name file e response is h = inr (e, is, h)
 
 -- so does a command to an input that is too long, whatever it is
 pub input_cuts : (format : Format) (Sends : Form → Responding) → ((form : Form) → CutsLong (Sends form)) → (input : Input)

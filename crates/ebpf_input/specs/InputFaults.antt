@@ -1,5 +1,6 @@
 -- Why an input or an option can't be used, as the sentence of a line: what it is, what is there, and what is expected.
-use Rattle.std.specs.Prelude.{ℕ, ◌∷◌, ◌++◌, ◌||◌, Bool, nat_lt, if◌then◌else◌, List, [], length, filter, codes, decimal, Option, Some, None, is_none, unwrap_or, slice_get, nat_eq}
+use Rattle.std.specs.Prelude.{ℕ, ◌∷◌, ◌++◌, ◌||◌, Bool, nat_lt, if◌then◌else◌, List, [], length, filter, codes, decimal, Option, Some, None}
+use Rattle.std.specs.Prelude.{is_none, unwrap_or, slice_get, nat_eq}
 use Rattle.std.specs.Char.{is_ascii_graphic}
 use Rattle.std.specs.List.{prefix_len, starts_with}
 use Rattle.hex.specs.Hex.{is_hex_digit}

@@ -9,6 +9,7 @@ ghost use Rattle.ebpf_input.specs.Formats.{fault_why_in, refused_why_in};
 ghost use Rattle.ebpf_input.specs.InputFaults.{part_name, may_stand, place_of_other, shown_byte, mending_of, other_byte};
 ghost use Rattle.ebpf_input.specs.InputFaults.{unread, is_object, unread_of, undecoded_sentence, slot_size, too_much, fault_words, fault_sentence};
 
+use crate::ask::Ask;
 use crate::form::Form;
 use crate::in_format::{answer_fault_why, answer_refused_why};
 use crate::program_text::{is_blank, spelled};
@@ -34,20 +35,21 @@ pub(crate) enum Part {
     Context,
 }
 
-/// The answer to an input and options that can't be used, by the first code that applies to them. It fails only where an allocation fails.
+/// The answer in `format` to an input and options that can't be used, by the first code that applies to them. It fails only where an
+/// allocation fails.
 pub fn answer_unused(
     alloc: Global,
     format: Format,
+    ask: &Ask<'_>,
     form: Form,
     input: &[u8],
-    context: &str,
-    held: u8,
     code: FaultCode,
 ) -> Result<Answer, AllocError>
-    ensures { IfOk result (λ answer. answer ≡ refused_response (fault_why_in format code 0 (fault_sentence form input.now context.now held code))) }
+    ensures { IfOk result (λ answer. answer ≡
+        refused_response (fault_why_in format code 0 (fault_sentence form input.now ask.now.context.now ask.now.held code))) }
 {
     let mut why = String::new(alloc);
-    write_fault_sentence(alloc, &mut why, form, input, context, held, code)?;
+    write_fault_sentence(alloc, &mut why, ask, form, input, code)?;
     answer_fault_why(alloc, format, code, &why)
 }
 
@@ -72,16 +74,15 @@ pub fn answer_undecoded(
 fn write_fault_sentence(
     alloc: Global,
     text: &mut String,
+    ask: &Ask<'_>,
     form: Form,
     input: &[u8],
-    context: &str,
-    held: u8,
     code: FaultCode,
 ) -> Result<(), AllocError>
-    ensures { OnOk result (string_bytes text.new ≡ string_bytes text.old ++ fault_sentence form input.now context.now held code) }
+    ensures { OnOk result (string_bytes text.new ≡ string_bytes text.old ++ fault_sentence form input.now ask.now.context.now ask.now.held code) }
 {
     text.push_str("  ")?;
-    write_words(alloc, text, form, input, context, held, code)?;
+    write_words(alloc, text, ask, form, input, code)?;
     text.push_str("\n")
 }
 
@@ -89,13 +90,12 @@ fn write_fault_sentence(
 fn write_words(
     alloc: Global,
     text: &mut String,
+    ask: &Ask<'_>,
     form: Form,
     input: &[u8],
-    context: &str,
-    held: u8,
     code: FaultCode,
 ) -> Result<(), AllocError>
-    ensures { OnOk result (string_bytes text.new ≡ string_bytes text.old ++ fault_words form input.now context.now held code) }
+    ensures { OnOk result (string_bytes text.new ≡ string_bytes text.old ++ fault_words form input.now ask.now.context.now ask.now.held code) }
 {
     match code {
         FaultCode::InputTooLong => {
@@ -104,8 +104,8 @@ fn write_words(
             )?;
             text.push_str(slot_size(form))
         }
-        FaultCode::BadNumber => write_too_much(alloc, text, context, held),
-        FaultCode::BadHex => write_unread_of(alloc, text, form, input, context),
+        FaultCode::BadNumber => write_too_much(alloc, text, ask.context, ask.held),
+        FaultCode::BadHex => write_unread_of(alloc, text, form, input, ask.context),
         _ => Ok(()),
     }
 }

@@ -19,26 +19,32 @@ use ebpf_verify::verified::Verified;
 use std::alloc::{AllocError, Global};
 use worker_pool::{Jobs, PackedReports};
 
+/// Jobs that were done, with the programs of their script, those that were accepted, and the report of each job.
+#[derive(Drop)]
+pub struct DoneJobs<'a> {
+    pub programs: &'a Programs,
+    pub accepted: &'a [Verified],
+    pub jobs: &'a Jobs,
+    pub reports: &'a PackedReports,
+}
+
 /// Writes after a text what the jobs of each program executed. It fails only where memory runs out, or a count would not fit 64 bits.
 pub fn write_covered(
     alloc: Global,
     text: &mut String,
     format: Format,
-    programs: &Programs,
-    accepted: &[Verified],
-    jobs: &Jobs,
-    reports: &PackedReports,
+    done: &DoneJobs<'_>,
 ) -> Result<(), AllocError>
-    requires known { AreKnown accepted.now }
-    requires all { length reports.now ≡ length jobs.now }
+    requires known { AreKnown done.now.accepted.now }
+    requires all { length done.now.reports.now ≡ length done.now.jobs.now }
     ensures { OnOk result (string_bytes text.new ≡ string_bytes text.old
-        ++ programs_from format jobs.now reports.now 0 (map named programs.now.entries) accepted.now) }
+        ++ programs_from format done.now.jobs.now done.now.reports.now 0 (map named done.now.programs.now.entries) done.now.accepted.now) }
 {
-    let all = cover(alloc, accepted, jobs, reports)?;
+    let all = cover(alloc, done.accepted, done.jobs, done.reports)?;
     let mut program = 0;
-    for (name, _) in programs.iter() {
-        if program < accepted.len() {
-            let verified = &accepted[program];
+    for (name, _) in done.programs.iter() {
+        if program < done.accepted.len() {
+            let verified = &done.accepted[program];
             let counts = &all[program];
             write_slots(text, format, name.as_str(), verified.program(), counts)?;
             program += 1;
@@ -62,60 +68,61 @@ fn write_slots(
     for slot in 0..program.slots() {
         let executed = counts.executed[slot];
         let taken = counts.taken[slot];
-        write_slot(text, format, name, slot, executed, taken, program.at(slot))?;
+        let covered = CoveredSlot {
+            name,
+            slot,
+            executed,
+            taken,
+        };
+        write_slot(text, format, &covered, program.at(slot))?;
     }
     Ok(())
+}
+
+// The counts of a slot of the program of a name.
+#[derive(Drop)]
+struct CoveredSlot<'a> {
+    name: &'a str,
+    slot: usize,
+    executed: u64,
+    taken: u64,
 }
 
 // Writes the counts of a slot, where it has an instruction.
 fn write_slot(
     text: &mut String,
     format: Format,
-    name: &str,
-    slot: usize,
-    executed: u64,
-    taken: u64,
+    covered: &CoveredSlot<'_>,
     insn: Option<&Insn>,
 ) -> Result<(), AllocError>
-    ensures { OnOk result (string_bytes text.new ≡ string_bytes text.old ++ covered_in format name.now slot executed taken (option_copied insn.entry)) }
+    ensures { OnOk result (string_bytes text.new ≡ string_bytes text.old
+        ++ covered_in format covered.now.name.now covered.now.slot covered.now.executed covered.now.taken (option_copied insn.entry)) }
 {
     match (insn, format) {
         (None, _) => Ok(()),
-        (Some(insn), Format::Text) => write_line(text, name, slot, executed, taken, insn),
-        (Some(insn), Format::Json) => write_object(text, name, slot, executed, taken, insn),
+        (Some(insn), Format::Text) => write_line(text, covered, insn),
+        (Some(insn), Format::Json) => write_object(text, covered, insn),
     }
 }
 
 // Writes the line of a slot.
-fn write_line(
-    text: &mut String,
-    name: &str,
-    slot: usize,
-    executed: u64,
-    taken: u64,
-    insn: &Insn,
-) -> Result<(), AllocError>
-    ensures { OnOk result (string_bytes text.new ≡ string_bytes text.old ++ covered_line name.now slot executed taken insn.now) }
+fn write_line(text: &mut String, covered: &CoveredSlot<'_>, insn: &Insn) -> Result<(), AllocError>
+    ensures { OnOk result (string_bytes text.new ≡ string_bytes text.old
+        ++ covered_line covered.now.name.now covered.now.slot covered.now.executed covered.now.taken insn.now) }
 {
-    write_counts(text, name, slot, executed, is_branch(insn), taken)?;
+    write_counts(text, covered, is_branch(insn))?;
     text.push_str(": ")?;
     write_insn(text, insn)?;
     text.push_str("\n")
 }
 
 // Writes the object of a slot.
-fn write_object(
-    text: &mut String,
-    name: &str,
-    slot: usize,
-    executed: u64,
-    taken: u64,
-    insn: &Insn,
-) -> Result<(), AllocError>
-    ensures { OnOk result (string_bytes text.new ≡ string_bytes text.old ++ covered_object name.now slot executed taken insn.now) }
+fn write_object(text: &mut String, covered: &CoveredSlot<'_>, insn: &Insn) -> Result<(), AllocError>
+    ensures { OnOk result (string_bytes text.new ≡ string_bytes text.old
+        ++ covered_object covered.now.name.now covered.now.slot covered.now.executed covered.now.taken insn.now) }
 {
-    write_members(text, name, slot, executed)?;
-    write_taken_member(text, is_branch(insn), taken)?;
+    write_members(text, covered.name, covered.slot, covered.executed)?;
+    write_taken_member(text, is_branch(insn), covered.taken)?;
     write_instruction_member(text, insn)
 }
 
@@ -128,14 +135,18 @@ fn is_branch(insn: &Insn) -> bool
 // Writes the counts of a slot.
 fn write_counts(
     text: &mut String,
-    name: &str,
-    slot: usize,
-    executed: u64,
+    covered: &CoveredSlot<'_>,
     branch: bool,
-    taken: u64,
 ) -> Result<(), AllocError>
-    ensures { OnOk result (string_bytes text.new ≡ string_bytes text.old ++ counts_words name.now slot executed branch taken) }
+    ensures { OnOk result (string_bytes text.new ≡ string_bytes text.old
+        ++ counts_words covered.now.name.now covered.now.slot covered.now.executed branch covered.now.taken) }
 {
+    let CoveredSlot {
+        name,
+        slot,
+        executed,
+        taken,
+    } = covered;
     if branch {
         return write!(
             text,

@@ -5,6 +5,7 @@ ghost use Rattle.worker_pool.specs.Outcomes.{IsEvenTotal};
 ghost use Rattle.ebpf_report.specs.Stats.{AreStatsOf, misses_in, steps_in};
 
 use crate::stats::Stats;
+use ebpf_state::kinds::KINDS;
 use worker_pool::{Outcome, PackedReports, ShelfTotals};
 
 /// The reports of an outcome that adds up, and its stats.
@@ -35,7 +36,7 @@ pub(crate) fn stats_of(outcome: Outcome<PackedReports>) -> (PackedReports, Stats
 }
 
 /// How many calls of `swap` got nothing from a shelf that had been filled before.
-pub(crate) fn misses_in(shelves: &[ShelfTotals; 3]) -> u128
+pub(crate) fn misses_in(shelves: &[ShelfTotals; KINDS]) -> u128
     ensures { result ≡ misses_in shelves.now }
 {
     let [cells, records, blocks] = shelves;

@@ -3,6 +3,7 @@
 ghost use Rattle.std.specs.Prelude.{◌≡◌, All, sum_by};
 ghost use Rattle.worker_pool.specs.Outcomes.{IsEvenTotal};
 
+use ebpf_state::kinds::KINDS;
 use object_cache::Totals;
 
 /// What is said of an outcome beside its text. What adds up does so by its type: each cache got back what it gave, and the jobs
@@ -10,7 +11,7 @@ use object_cache::Totals;
 #[derive(Drop)]
 pub struct Stats {
     /// What each cache did, in the order of the kinds' numbers.
-    pub totals: [Totals; 3],
+    pub totals: [Totals; KINDS],
     /// How many objects went back to their cache since their slot had an owner.
     pub clashes: u64,
     /// How many objects that came off a shelf went back to their cache since the table had their slots as another's.

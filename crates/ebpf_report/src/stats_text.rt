@@ -12,6 +12,7 @@ use crate::totals_text::name_of;
 use crate::watch::Times;
 use ebpf_command::format::Format;
 use ebpf_command::members::{Member, write_line};
+use ebpf_state::kinds::KINDS;
 use object_cache::Totals;
 use std::alloc::AllocError;
 
@@ -44,7 +45,11 @@ fn write_head(text: &mut String, format: Format) -> Result<(), AllocError>
 }
 
 // Writes what the cache of each kind did.
-fn write_caches(text: &mut String, format: Format, totals: &[Totals; 3]) -> Result<(), AllocError>
+fn write_caches(
+    text: &mut String,
+    format: Format,
+    totals: &[Totals; KINDS],
+) -> Result<(), AllocError>
     ensures { OnOk result (string_bytes text.new ≡ string_bytes text.old ++ caches_from format 0 totals.now) }
 {
     for kind in 0..totals.len() {

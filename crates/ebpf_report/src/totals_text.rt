@@ -6,7 +6,7 @@ ghost use Rattle.ebpf_report.specs.TotalsLines.{cache_line, caches_from, kind_na
 
 use ebpf_command::format::Format;
 use ebpf_command::members::{Member, write_line};
-use ebpf_state::kinds::kinds;
+use ebpf_state::kinds::{KINDS, kinds};
 use object_cache::Totals;
 use std::alloc::AllocError;
 use worker_pool::ShelfTotals;
@@ -24,8 +24,8 @@ pub struct CacheCounts {
 pub(crate) fn write_totals(
     text: &mut String,
     format: Format,
-    totals: &[Totals; 3],
-    shelves: &[ShelfTotals; 3],
+    totals: &[Totals; KINDS],
+    shelves: &[ShelfTotals; KINDS],
 ) -> Result<(), AllocError>
     ensures { OnOk result (string_bytes text.new ≡ string_bytes text.old ++ totals_lines format totals.now shelves.now) }
 {
@@ -34,7 +34,11 @@ pub(crate) fn write_totals(
 }
 
 // Writes what the cache of each kind did.
-fn write_caches(text: &mut String, format: Format, totals: &[Totals; 3]) -> Result<(), AllocError>
+fn write_caches(
+    text: &mut String,
+    format: Format,
+    totals: &[Totals; KINDS],
+) -> Result<(), AllocError>
     ensures { OnOk result (string_bytes text.new ≡ string_bytes text.old ++ caches_from format 0 totals.now) }
 {
     for kind in 0..totals.len() {
@@ -87,7 +91,7 @@ pub fn name_of(kind: usize) -> &'static str
 pub fn write_shelves(
     text: &mut String,
     format: Format,
-    shelves: &[ShelfTotals; 3],
+    shelves: &[ShelfTotals; KINDS],
 ) -> Result<(), AllocError>
     ensures { OnOk result (string_bytes text.new ≡ string_bytes text.old ++ shelves_from format 0 shelves.now) }
 {

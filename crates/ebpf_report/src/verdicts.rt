@@ -52,14 +52,14 @@ pub fn explained_verdicts_on(
 ) -> Result<Verdicts, AllocError>
     ensures { IfOk result (AreExplained format explain (map named programs.now.entries)) }
 {
-    let rows = kinds();
+    let kinds = kinds();
     let mut verdicts = Verdicts {
         text: String::new(alloc),
         accepted: Vec::new(alloc),
         refused: false,
     };
     for (name, program) in programs.iter() {
-        verdicts.add_on(alloc, format, name.as_str(), program, &rows, explain)?;
+        verdicts.add_on(alloc, format, name.as_str(), program, &kinds, explain)?;
     }
     Ok(verdicts)
 }
@@ -87,14 +87,14 @@ impl Verdicts {
         format: Format,
         name: &str,
         program: &ProgramText,
-        rows: &[KindRow],
+        kinds: &[KindRow],
         explain: bool,
     ) -> Result<(), AllocError>
-        requires { AreKinds rows.now }
-        ensures { OnOk result (IsOneMore format explain name.now program.now.bytes.items program.now.decl rows.now self.old self.new) }
+        requires { AreKinds kinds.now }
+        ensures { OnOk result (IsOneMore format explain name.now program.now.bytes.items program.now.decl kinds.now self.old self.new) }
     {
-        let examined = examine(alloc, &program.bytes, program.decl, rows)?;
-        let why = why_of(alloc, program, rows, explain, &examined)?;
+        let examined = examine(alloc, &program.bytes, program.decl, kinds)?;
+        let why = why_of(alloc, program, kinds, explain, &examined)?;
         self.add(format, name, Judged::of(examined), why.as_str())
     }
 
@@ -123,13 +123,13 @@ impl Verdicts {
 fn why_of(
     alloc: Global,
     program: &ProgramText,
-    rows: &[KindRow],
+    kinds: &[KindRow],
     explain: bool,
     examined: &Examined,
 ) -> Result<String, AllocError>
-    requires kinds { AreKinds rows.now }
-    requires examined { IsExamined program.now.bytes.items program.now.decl rows.now examined.now }
-    ensures { IfOk result (λ why. IsTold explain (judged_as examined.now) program.now.bytes.items program.now.decl rows.now (string_bytes why)) }
+    requires kinds { AreKinds kinds.now }
+    requires examined { IsExamined program.now.bytes.items program.now.decl kinds.now examined.now }
+    ensures { IfOk result (λ why. IsTold explain (judged_as examined.now) program.now.bytes.items program.now.decl kinds.now (string_bytes why)) }
 {
     let mut why = String::new(alloc);
     if !explain {
@@ -141,7 +141,7 @@ fn why_of(
         &program.bytes,
         examined,
         program.decl,
-        rows,
+        kinds,
     )?;
     Ok(why)
 }

@@ -79,11 +79,9 @@ fn explain_asked(
                 format: ask.format,
                 source: None,
             };
-            show_input(alloc, shown, form, input, ask.context, ask.held)
+            show_input(alloc, shown, ask, form, input)
         }
-        Input::Object(name) => {
-            explain_file(alloc, ask.format, input, name, ask.context, ask.held, lines)
-        }
+        Input::Object(name) => explain_file(alloc, ask, input, name, lines),
     }
 }
 

@@ -82,12 +82,12 @@ fn write_known_of(
     alloc: Global,
     text: &mut String,
     state: &State,
-    rows: &[KindRow],
+    kinds: &[KindRow],
 ) -> Result<(), AllocError>
-    ensures { OnOk result (string_bytes text.new ≡ string_bytes text.old ++ known_object (known_words state.now rows.now)) }
+    ensures { OnOk result (string_bytes text.new ≡ string_bytes text.old ++ known_object (known_words state.now kinds.now)) }
 {
     let mut words = String::new(alloc);
-    write_known(&mut words, state, rows)?;
+    write_known(&mut words, state, kinds)?;
     write_known_object(text, &words)?;
     Ok(())
 }

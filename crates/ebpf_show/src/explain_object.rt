@@ -8,8 +8,8 @@ ghost use Rattle.ebpf_show.specs.ExplainObject.{ExplainsLined, ExplainsUnread, E
 use crate::shown::{Shown, show_input};
 use crate::sourced::Sourced;
 use ebpf_command::answer::Answer;
-use ebpf_command::format::Format;
 use ebpf_command::input::MAX_INPUT;
+use ebpf_input::ask::Ask;
 use ebpf_input::form::Form;
 use ebpf_input::object::{answer_file_fault, answer_object_fault};
 use ebpf_object_file::fault::FileFault;
@@ -21,29 +21,28 @@ use std::alloc::{AllocError, Global};
 // The response to the slots of a function, with the lines of C that are known.
 fn explain_code(
     alloc: Global,
-    format: Format,
+    ask: &Ask<'_>,
     code: &[u8],
-    context: &str,
-    held: u8,
     source: Option<Sourced<'_>>,
 ) -> Result<Answer, AllocError>
-    ensures { IfOk result (ExplainsWith format source.entry Raw context.now held code.now) }
+    ensures { IfOk result (ExplainsWith ask.now.format source.entry Raw ask.now.context.now ask.now.held code.now) }
 {
-    let shown = Shown::States { format, source };
-    show_input(alloc, shown, Form::Raw, code, context, held)
+    let shown = Shown::States {
+        format: ask.format,
+        source,
+    };
+    show_input(alloc, shown, ask, Form::Raw, code)
 }
 
 // The response to a function with lines.
 fn explain_lined(
     alloc: Global,
-    format: Format,
+    ask: &Ask<'_>,
     function: Function<'_>,
     lines: Lines<'_>,
-    context: &str,
-    held: u8,
     listed: bool,
 ) -> Result<Answer, AllocError>
-    ensures { IfOk result (ExplainsLined format listed lines.entry function.entry context.now held) }
+    ensures { IfOk result (ExplainsLined ask.now.format listed lines.entry function.entry ask.now.context.now ask.now.held) }
 {
     let mut holding: Vec<Option<Line>> = vec![in alloc; None; function.code.len() / 8]?;
     lines.at_slots(function.place.from, &mut holding);
@@ -52,64 +51,58 @@ fn explain_lined(
         holding: &holding,
         listed,
     };
-    explain_code(alloc, format, function.code, context, held, Some(source))
+    explain_code(alloc, ask, function.code, Some(source))
 }
 
 // The response to a function with lines that can't be read.
 fn explain_unread(
     alloc: Global,
-    format: Format,
-    fault: FileFault,
+    ask: &Ask<'_>,
     function: Function<'_>,
-    context: &str,
-    held: u8,
+    fault: FileFault,
     listed: bool,
 ) -> Result<Answer, AllocError>
-    ensures { IfOk result (ExplainsUnread format listed fault function.entry context.now held) }
+    ensures { IfOk result (ExplainsUnread ask.now.format listed fault function.entry ask.now.context.now ask.now.held) }
 {
     if listed {
-        answer_file_fault(alloc, format, fault)
+        answer_file_fault(alloc, ask.format, fault)
     } else {
-        explain_code(alloc, format, function.code, context, held, None)
+        explain_code(alloc, ask, function.code, None)
     }
 }
 
 // The response to a function of a file.
 fn explain_function(
     alloc: Global,
-    format: Format,
+    ask: &Ask<'_>,
     file: &[u8],
     function: Function<'_>,
-    context: &str,
-    held: u8,
     listed: bool,
 ) -> Result<Answer, AllocError>
-    ensures { IfOk result (ExplainsFunction format listed context.now held file.now function.entry) }
+    ensures { IfOk result (ExplainsFunction ask.now.format listed ask.now.context.now ask.now.held file.now function.entry) }
 {
     match lines_of(file, function.place.section) {
-        Ok(Some(lines)) => explain_lined(alloc, format, function, lines, context, held, listed),
-        Ok(None) => explain_code(alloc, format, function.code, context, held, None),
-        Err(fault) => explain_unread(alloc, format, fault, function, context, held, listed),
+        Ok(Some(lines)) => explain_lined(alloc, ask, function, lines, listed),
+        Ok(None) => explain_code(alloc, ask, function.code, None),
+        Err(fault) => explain_unread(alloc, ask, function, fault, listed),
     }
 }
 
-/// The response to a file. It fails only where an allocation fails.
+/// The response to a file, of which the function of a name is asked for. It fails only where an allocation fails.
 pub(crate) fn explain_file(
     alloc: Global,
-    format: Format,
+    ask: &Ask<'_>,
     file: &[u8],
     name: &str,
-    context: &str,
-    held: u8,
     listed: bool,
 ) -> Result<Answer, AllocError>
-    ensures { IfOk result (ExplainsObject format listed context.now held name.now file.now) }
+    ensures { IfOk result (ExplainsObject ask.now.format listed ask.now.context.now ask.now.held name.now file.now) }
 {
     if file.len() > MAX_INPUT {
-        return explain_code(alloc, format, file, context, held, None);
+        return explain_code(alloc, ask, file, None);
     }
     match wanted_function(file, name.as_bytes()) {
-        Ok(function) => explain_function(alloc, format, file, function, context, held, listed),
-        Err(fault) => answer_object_fault(alloc, format, file, fault),
+        Ok(function) => explain_function(alloc, ask, file, function, listed),
+        Err(fault) => answer_object_fault(alloc, ask.format, file, fault),
     }
 }

@@ -53,9 +53,9 @@ fn graph_asked(
 {
     let shown = Shown::Graph { states };
     match ask.input {
-        Input::Program(form) => show_input(alloc, shown, form, input, ask.context, ask.held),
+        Input::Program(form) => show_input(alloc, shown, ask, form, input),
         Input::Object(name) => match taken(name, input) {
-            Ok(bytes) => show_input(alloc, shown, Form::Raw, bytes, ask.context, ask.held),
+            Ok(bytes) => show_input(alloc, shown, ask, Form::Raw, bytes),
             Err(fault) => answer_object_fault(alloc, Format::Text, input, fault),
         },
     }

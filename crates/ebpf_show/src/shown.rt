@@ -16,6 +16,7 @@ use ebpf_explain::reason::write_misled;
 use ebpf_flow::fault::FlowCode;
 use ebpf_flow::flowed::Flowed;
 use ebpf_flow::followed::{Followed, follow};
+use ebpf_input::ask::Ask;
 use ebpf_input::form::Form;
 use ebpf_input::in_format::answer_refused_why;
 use ebpf_input::input_faults::{answer_undecoded, answer_unused};
@@ -60,22 +61,19 @@ fn source_of<'a>(shown: Shown<'a>) -> Option<Sourced<'a>>
     }
 }
 
-/// The response to an input and the options. It fails only where an allocation fails.
+/// The response to an input in a form, with the options that are asked for. It fails only where an allocation fails.
 pub(crate) fn show_input(
     alloc: Global,
     shown: Shown<'_>,
+    ask: &Ask<'_>,
     form: Form,
     input: &[u8],
-    context: &str,
-    held: u8,
 ) -> Result<Answer, AllocError>
-    ensures { IfOk result (ShowsTo shown.entry form context.now held input.now) }
+    ensures { IfOk result (ShowsTo shown.entry form ask.now.context.now ask.now.held input.now) }
 {
-    match requested(alloc, form, input, context, held) {
+    match requested(alloc, form, input, ask.context, ask.held) {
         Ok(request) => show_request(alloc, shown, request),
-        Err(Stop::Fault(code)) => {
-            answer_unused(alloc, format_of(shown), form, input, context, held, code)
-        }
+        Err(Stop::Fault(code)) => answer_unused(alloc, format_of(shown), ask, form, input, code),
         Err(Stop::NoMemory) => Err(AllocError),
     }
 }
@@ -94,10 +92,10 @@ fn show_bytes(
     shown: Shown<'_>,
     bytes: &[u8],
     decl: Decl,
-    rows: &[KindRow],
+    kinds: &[KindRow],
 ) -> Result<Answer, AllocError>
-    requires { AreKinds rows.now }
-    ensures { IfOk result (ShowsWith shown.entry bytes.now decl rows.now) }
+    requires { AreKinds kinds.now }
+    ensures { IfOk result (ShowsWith shown.entry bytes.now decl kinds.now) }
 {
     let format = format_of(shown);
     let source = source_of(shown);
@@ -114,7 +112,7 @@ fn show_bytes(
             let answer = answer_misled(alloc, format, &program, slot, code)?;
             with_line(format, answer, source, slot)
         }
-        Followed::Flowed(flowed) => show_flowed(alloc, shown, &flowed, decl, rows),
+        Followed::Flowed(flowed) => show_flowed(alloc, shown, &flowed, decl, kinds),
     }
 }
 
@@ -139,12 +137,12 @@ fn show_flowed(
     shown: Shown<'_>,
     flowed: &Flowed,
     decl: Decl,
-    rows: &[KindRow],
+    kinds: &[KindRow],
 ) -> Result<Answer, AllocError>
-    requires { AreKinds rows.now }
-    ensures { IfOk result (λ answer. answer ≡ shown_of shown.entry (record { program = flowed.now; decl = decl; rows = rows.now })) }
+    requires { AreKinds kinds.now }
+    ensures { IfOk result (λ answer. answer ≡ shown_of shown.entry (record { program = flowed.now; decl = decl; rows = kinds.now })) }
 {
-    let trace = Trace::of(alloc, flowed, decl, rows)?;
+    let trace = Trace::of(alloc, flowed, decl, kinds)?;
     match shown {
         Shown::States { format, source } => answer_states(alloc, format, &trace, source),
         Shown::Graph { states } => answer_graph(alloc, &trace, states),

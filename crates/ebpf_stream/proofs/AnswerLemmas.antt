@@ -1,5 +1,6 @@
 -- What one line is answered.
-use Rattle.std.proofs.Common.{◌≡◌, ℕ, zero, suc, ◌+◌, ◌<◌, true, List, [], ◌∷◌, ◌++◌, length, map, slice_get, get_or, Option, Some, None, Result, Ok, Err, OnOk, refl, sym, subst, arith}
+use Rattle.std.proofs.Common.{◌≡◌, ℕ, zero, suc, ◌+◌, ◌<◌, List, [], ◌∷◌, ◌++◌, length, map, slice_get, get_or, Option, Some, None, Result}
+use Rattle.std.proofs.Common.{Ok, Err, OnOk, refl, sym, subst, arith}
 use Rattle.std.specs.Prelude.{IfSome, IfNone}
 use Rattle.ebpf_insn.specs.Program.{instructions}
 use Rattle.ebpf_verify.specs.Subject.{Subject}
@@ -7,8 +8,6 @@ use Rattle.ebpf_machine.specs.declared.report.Report.{Report}
 use Rattle.ebpf_machine.specs.Whole.{IsReportOf}
 use Rattle.ebpf_host.specs.Reports.{IsCutOff, IsReportWithin}
 use Rattle.job_list.specs.declared.jobs.Job.{Job}
-use Rattle.ebpf_command.specs.declared.done.FaultCode.{FaultCode}
-use Rattle.ebpf_command.specs.Json.{fault_in}
 use Rattle.ebpf_reader.specs.JobLines.{job_of, stream_shape}
 use Rattle.ebpf_reader.specs.Words.{words}
 use Rattle.ebpf_stream.specs.Answering.{Setting, Position, IsAnswered, IsDone, stream_fault}
@@ -16,10 +15,6 @@ use Rattle.ebpf_stream.specs.Answering.{Setting, Position, IsAnswered, IsDone, s
 pub answered_as : (s : Setting) (line : List ℕ) (job : Option Job) (a b : Position) (text : List ℕ) → stream_fault s.parsed line ≡ None
     → job ≡ job_of s.parsed (stream_shape (words line)) → IsDone s job a b text → IsAnswered s line a b text
 answered_as s line job a b text fine is done = rw (fine, sym is) done
-
-pub answered_fault : (s : Setting) (line : List ℕ) (code : FaultCode) (a b : Position) (text : List ℕ) → stream_fault s.parsed line ≡ Some code
-    → b ≡ record a { lines = a.lines + 1; faulty = true } → text ≡ fault_in s.format code (a.lines + 1) → IsAnswered s line a b text
-answered_fault s line code a b text fault position is = rw fault (position, is)
 
 -- a run that may do more instructions than its program has exits
 pub report_whole : (s : Subject) (context : List ℕ) (r : Report) → IsReportWithin s context (length (instructions s.program) + 1) r → IsReportOf s context r

@@ -1,5 +1,7 @@
 -- A stream after more of its bytes.
-use Rattle.std.proofs.Common.{◌≡◌, ◌≢◌, ℕ, ◌+◌, ◌-◌, min, cond, ◌<◌, ◌≤◌, ◌==◌, false, List, [], ◌∷◌, ◌++◌, length, take, drop, get_or, Option, Result, Ok, Err, is_ok, OnOk, refl, sym, ap, ◌∙◌, subst, arith, append_assoc, append-nil, length-drop, add_assoc, inl, inr, eq-zero-or-pos}
+use Rattle.std.proofs.Common.{◌≡◌, ◌≢◌, ℕ, ◌+◌, ◌-◌, min, cond, ◌<◌, ◌≤◌, ◌==◌, false, List, [], ◌∷◌, ◌++◌, length, take, drop, get_or, Option}
+use Rattle.std.proofs.Common.{Result, Ok, Err, is_ok, OnOk, refl, sym, ap, ◌∙◌, subst, arith, append_assoc, append-nil, length-drop, add_assoc}
+use Rattle.std.proofs.Common.{inl, inr, eq-zero-or-pos}
 use Rattle.std.specs.Prelude.{string_bytes}
 use Rattle.std.specs.List.{All}
 use Rattle.std.proofs.lemmas.Grind.{common_steps}

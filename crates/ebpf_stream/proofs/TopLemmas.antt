@@ -68,18 +68,21 @@ module _ (format : Format) (script input old new : Option (List ℕ)) (text : Li
     by (Some all) (Some i) is h = (h.0, as_read format (DoesFirst format i) all text h.0 (Ok parsed) is parses h.1, h.2)
 
   pub fault_written : (line : ℕ) (code : FaultCode) → IfSome script (λ all. text ≡ read_of all) → parsed_text Setup text ≡ Err (line, code)
-      → Writes (λ all response. response ≡ refused_response (fault_in format code line)) input old new r → WritesStream format script input old new r
+      → (let answer = refused_response (fault_in format code line) in IfOk r (λ done. (done ≡ answer.done) × Appends old new answer.text))
+      → WritesStream format script input old new r
   fault_written line code is parses h = by script is where
     by : (known : Option (List ℕ)) → IfSome known (λ all. text ≡ read_of all) → WritesStream format known input old new r
     by None is = tt
-    by (Some all) is = response_through (RespondsStream format all) input old new r h (λ i t k. as_read format (DoesStream format i) all text t (Err (line, code)) is parses k)
+    by (Some all) is = response_through (RespondsStream format all) input old new r (answer_written (refused_response (fault_in format code line)) input old new r h)
+        (λ i t k. as_read format (DoesStream format i) all text t (Err (line, code)) is parses k)
 
   pub fault_begun : (line : ℕ) (code : FaultCode) → IfSome script (λ all. text ≡ read_of all) → parsed_text Setup text ≡ Err (line, code)
-      → WritesBeginning (λ all response. response ≡ refused_response (fault_in format code line)) input old new r → WritesPart format script input old new r
+      → IfErr r (λ fault. AppendsBeginning old new (refused_response (fault_in format code line)).text) → WritesPart format script input old new r
   fault_begun line code is parses h = by script is where
     by : (known : Option (List ℕ)) → IfSome known (λ all. text ≡ read_of all) → WritesPart format known input old new r
     by None is = tt
-    by (Some all) is = begun_through (RespondsPart format all) input old new r h (λ i t k. inl (as_read format (DoesStream format i) all text t (Err (line, code)) is parses k))
+    by (Some all) is = begun_through (RespondsPart format all) input old new r (answer_begun (refused_response (fault_in format code line)) input old new r h)
+        (λ i t k. inl (as_read format (DoesStream format i) all text t (Err (line, code)) is parses k))
 
 pub if_stopped : (r : Result Done EngineFault) (A B C : Type 0) → (B → C) → IfErr r (λ fault. fault ≢ Output → A ⊎ B) → IfErr r (λ fault. fault ≢ Output → A ⊎ C)
 if_stopped (Ok done) A B C f h = tt

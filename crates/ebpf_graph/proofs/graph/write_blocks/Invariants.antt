@@ -7,5 +7,5 @@ use Rattle.ebpf_graph.proofs.graph.write_blocks.Given as goal
 abbrev pub invariant-loop-slot : goal.invariant-loop-slot
 invariant-loop-slot l = record {
   first : l.first ≡ last_begun l.trace.flowed.now l.slot;
-  written : string_bytes l.text ≡ string_bytes l.fn.text ++ texts_below l.slot (slot_graph l.drawn.states l.trace.flowed.now l.trace.entries.items l.trace.kinds.now l.refused);
+  written : string_bytes l.text ≡ string_bytes l.fn.text ++ texts_below l.slot (slot_graph l.drawn.states l.trace.flowed.now l.trace.entries.items l.trace.kinds.now l.drawn.refused);
 }

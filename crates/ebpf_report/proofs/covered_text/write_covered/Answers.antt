@@ -1,39 +1,47 @@
-use Rattle.std.proofs.Common.{◌≡◌, ◌<◌, ◌++◌, List, Some, length, drop, get_or, map, string_bytes, refl, sym, ap, subst, rules, arith}
+use Rattle.std.proofs.Common.{◌≡◌, ◌<◌, ◌++◌, List, Some, length, drop, get_or, map, string_bytes, refl, sym, ap, ◌∙◌, subst, rules, arith}
 use Rattle.std.specs.Prelude.{slice_get}
 use Rattle.std.proofs.lemmas.Option.{slice_get_read}
+use Rattle.ebpf_cover.specs.Covered.{executed_at, taken_at}
 use Rattle.ebpf_reader.specs.ParsedScript.{Named}
 use Rattle.ebpf_reader.specs.ReadScripts.{named}
-use Rattle.ebpf_report.specs.CoveredLines.{programs_from}
+use Rattle.ebpf_report.specs.CoveredLines.{programs_from, slots_from}
 use Rattle.ebpf_report.proofs.CoveredLemmas.{program_next, program_past, programs_done}
 use Rattle.ebpf_report.proofs.covered_text.write_covered.Goals as goal
 
-pub loop-name-preserved-then-program-accepted : goal.loop-name-preserved-then-program-accepted
-loop-name-preserved-then-program-accepted c =
+pub loop-name-preserved-then-program-done : goal.loop-name-preserved-then-program-done
+loop-name-preserved-then-program-done c =
     let format = c.args.format in
-    let jobs = c.args.jobs.now in
-    let reports = c.args.reports.now in
+    let done = c.args.done.now in
+    let jobs = done.jobs.now in
+    let reports = done.reports.now in
     let k = c.loop-name.program in
-    let s = c.index-accepted-program.result in
-    let all = string_bytes c.args.text.now ++ programs_from format jobs reports 0 (map named c.args.programs.now.entries) c.args.accepted.now in
-    let same : get_or c.args.accepted.now k s ≡ s = search rules in
+    let s = c.index-done-program.result in
+    let all = string_bytes c.args.text.now ++ programs_from format jobs reports 0 (map named done.programs.now.entries) done.accepted.now in
+    let same : get_or done.accepted.now k s ≡ s = search rules in
     let counts = c.index-counts.result.now in
-    let subject : slice_get c.args.accepted.now k ≡ Some s = slice_get_read c.args.accepted.now (length c.args.accepted.now) k s refl c.if-program-accepted.true (sym same) in
-    let inside : k < length c.in_ok-all.all.items = omega (arith, c.if-program-accepted.true, c.in_ok-all.ensures.long) in
+    let subject : slice_get done.accepted.now k ≡ Some s = slice_get_read done.accepted.now (length done.accepted.now) k s refl c.if-program-done.true (sym same) in
+    let inside : k < length c.in_ok-all.all.items = omega (arith, c.if-program-done.true, c.in_ok-all.ensures.long) in
     let there : slice_get c.in_ok-all.all.items k ≡ Some counts = slice_get_read c.in_ok-all.all.items (length c.in_ok-all.all.items) k counts refl inside c.index-counts.ensures in
-    program_next format jobs reports k (named (c.in-Some.name.now, c.in-Some.field-0-1.now)) (map named c.next.new.self) s c.args.accepted.now counts all
-    (string_bytes c.loop-name.text) (string_bytes c.write_slots.new.text) c.if-program-accepted.true same (c.in_ok-all.ensures.each k s counts subject there) (rw (← c.as_str.ensures.value, ← c.program.ensures.value) c.in_ok-write_slots.ensures)
-    (subst (λ (xs : List Named). string_bytes c.loop-name.text ++ programs_from format jobs reports k xs (drop k c.args.accepted.now) ≡ all) (ap (map named) c.in-Some.ensures.steps) c.loop-name.invariant)
+    let written : string_bytes c.write_slots.new.text ≡ string_bytes c.loop-name.text ++ slots_from format (string_bytes c.in-Some.name.now) (executed_at counts) (taken_at counts) 0 s.program =
+    c.in_ok-write_slots.ensures
+    ∙ (λ n. string_bytes c.loop-name.text ++ slots_from format (c.as_str.ensures.value n) (executed_at counts) (taken_at counts) 0 (c.program.ensures.value n))
+    ∙ (λ n. string_bytes c.loop-name.text ++ slots_from format (string_bytes c.in-Some.name.now) (executed_at counts) (taken_at counts) 0 (same n).program) in
+    program_next format jobs reports k (named (c.in-Some.name.now, c.in-Some.field-0-1.now)) (map named c.next.new.self) s done.accepted.now counts all
+    (string_bytes c.loop-name.text) (string_bytes c.write_slots.new.text) c.if-program-done.true same (c.in_ok-all.ensures.each k s counts subject there) written
+    (subst (λ (xs : List Named). string_bytes c.loop-name.text ++ programs_from format jobs reports k xs (drop k done.accepted.now) ≡ all) (ap (map named) c.in-Some.ensures.steps) c.loop-name.invariant)
 
 pub loop-name-preserved : goal.loop-name-preserved
 loop-name-preserved c =
     let format = c.args.format in
-    let jobs = c.args.jobs.now in
-    let reports = c.args.reports.now in
+    let done = c.args.done.now in
+    let jobs = done.jobs.now in
+    let reports = done.reports.now in
     let k = c.loop-name.program in
-    let all = string_bytes c.args.text.now ++ programs_from format jobs reports 0 (map named c.args.programs.now.entries) c.args.accepted.now in
-    program_past format jobs reports k (named (c.in-Some.name.now, c.in-Some.field-0-1.now)) (map named c.next.new.self) c.args.accepted.now all (string_bytes c.loop-name.text) c.if-program-accepted.false
-    (subst (λ (xs : List Named). string_bytes c.loop-name.text ++ programs_from format jobs reports k xs (drop k c.args.accepted.now) ≡ all) (ap (map named) c.in-Some.ensures.steps) c.loop-name.invariant)
+    let all = string_bytes c.args.text.now ++ programs_from format jobs reports 0 (map named done.programs.now.entries) done.accepted.now in
+    program_past format jobs reports k (named (c.in-Some.name.now, c.in-Some.field-0-1.now)) (map named c.next.new.self) done.accepted.now all (string_bytes c.loop-name.text) c.if-program-done.false
+    (subst (λ (xs : List Named). string_bytes c.loop-name.text ++ programs_from format jobs reports k xs (drop k done.accepted.now) ≡ all) (ap (map named) c.in-Some.ensures.steps) c.loop-name.invariant)
 
 pub returns : goal.returns
 returns c =
-    programs_done c.args.format c.args.jobs.now c.args.reports.now c.loop-name.program (map named c.loop-name.name-iterator) (drop c.loop-name.program c.args.accepted.now) _ (string_bytes c.loop-name.text) (ap (map named) c.in-None.ensures.steps.0) c.loop-name.invariant
+    let done = c.args.done.now in
+    programs_done c.args.format done.jobs.now done.reports.now c.loop-name.program (map named c.loop-name.name-iterator) (drop c.loop-name.program done.accepted.now) _ (string_bytes c.loop-name.text) (ap (map named) c.in-None.ensures.steps.0) c.loop-name.invariant

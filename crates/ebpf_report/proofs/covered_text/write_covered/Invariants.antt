@@ -5,5 +5,5 @@ use Rattle.ebpf_report.proofs.covered_text.write_covered.Given as goal
 
 abbrev pub invariant-loop-name : goal.invariant-loop-name
 invariant-loop-name l =
-    string_bytes l.text ++ programs_from l.fn.format l.fn.jobs l.fn.reports l.program (map named l.name-iterator) (drop l.program l.fn.accepted)
-    ≡ string_bytes l.fn.text ++ programs_from l.fn.format l.fn.jobs l.fn.reports 0 (map named l.programs.entries) l.fn.accepted
+    string_bytes l.text ++ programs_from l.fn.format l.fn.done.jobs.now l.fn.done.reports.now l.program (map named l.name-iterator) (drop l.program l.fn.done.accepted.now)
+    ≡ string_bytes l.fn.text ++ programs_from l.fn.format l.fn.done.jobs.now l.fn.done.reports.now 0 (map named l.done.programs.now.entries) l.fn.done.accepted.now

@@ -10,15 +10,15 @@ use Rattle.ebpf_report.proofs.verdicts.explained_verdicts_on.Goals as goal
 pub loop-name-preserved : goal.loop-name-preserved
 loop-name-preserved c =
     let program = c.in-Some.program.now in
-    let more : IsOneMore c.args.format c.args.explain (string_bytes c.in-Some.name.now) program.bytes.items program.decl c.kinds-rows.result c.loop-name.verdicts c.add_on.new.self = rw (← c.as_str.ensures.value) c.in_ok-add_on.ensures in
+    let more : IsOneMore c.args.format c.args.explain (string_bytes c.in-Some.name.now) program.bytes.items program.decl c.kinds-kinds.result c.loop-name.verdicts c.add_on.new.self = rw (← c.as_str.ensures.value) c.in_ok-add_on.ensures in
     let verdict : Verdict = record {
       program = named (c.in-Some.name.now, program);
       decl = program.decl;
-      rows = c.kinds-rows.result;
+      rows = c.kinds-kinds.result;
       judged = more.judged;
       context = refl;
       held = refl;
-      kinds = c.kinds-rows.ensures;
+      kinds = c.kinds-kinds.ensures;
       is = more.is_judged;
     } in
     let explained : Explained c.args.explain = record { verdict = verdict; why = more.why; is = more.is_told } in

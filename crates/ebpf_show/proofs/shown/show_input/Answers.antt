@@ -8,6 +8,6 @@ pub returns-in-Ok : goal.returns-in-Ok
 returns-in-Ok c =
     let asked : Asked = record { bytes = c.in-Ok.request.bytes.items; context = c.in-Ok.request.context.items; held = c.in-Ok.request.decl.held } in
     let e = c.in-Ok.ensures in
-    let same : asked ≡ asked_for c.args.form c.args.input.now c.args.context.now c.args.held = rw (e.bytes, e.context, e.declared.1) refl in
+    let same : asked ≡ asked_for c.args.form c.args.input.now c.args.ask.now.context.now c.args.ask.now.held = rw (e.bytes, e.context, e.declared.1) refl in
     IfOk-weaker c.show_request.result _ _
-    (λ response h. Shows-asked c.args.shown c.args.form c.args.input.now c.args.context.now c.args.held asked response e.fine same h) c.show_request.ensures
+    (λ response h. Shows-asked c.args.shown c.args.form c.args.input.now c.args.ask.now.context.now c.args.ask.now.held asked response e.fine same h) c.show_request.ensures
