@@ -1,9 +1,8 @@
 -- A stock of which a slot is taken, and to which one is given back.
-use Rattle.std.proofs.Common.{◌≡◌, ◌≢◌, ℕ, ◌+◌, ◌/◌, ◌≤◌, Option, Some, None, sym, ap, ◌∙◌, subst, arith}
+use Rattle.std.proofs.Common.{◌≡◌, ◌≢◌, ℕ, ◌+◌, ◌≤◌, Option, Some, None, sym, ap, subst, arith}
 use Rattle.std.specs.Prelude.{IfSome, option_map}
-use Rattle.slab_layer.specs.declared.place.Place.TheVariants.{Home}
-use Rattle.slab_layer.specs.Slots.{Pages, IsOut, Moves, TakesOut, RemovesPage, out_count}
-use Rattle.ebpf_host.specs.Stock.{StockView, Shelved, IsHeld, Takes, Gives, one_if}
+use Rattle.slab_layer.specs.Slots.{Pages, IsOut, TakesOut, out_count}
+use Rattle.ebpf_host.specs.Stock.{StockView, Shelved, Takes, one_if}
 
 pub one_at_most : {X : Type 0} (o : Option X) → one_if o ≤ 1
 one_at_most None = omega arith
@@ -29,29 +28,11 @@ takes_as old new slot standing same taken counts = record {
   shelf = same;
 }
 
-pub gives_as : (old new : StockView) (slot : ℕ) → new.shelf ≡ old.shelf → IsHeld old slot → Moves old.pages new.pages slot Home
-    → out_count new.pages + 1 ≡ out_count old.pages → Gives old new slot
-gives_as old new slot same was moves counts = record {
-  before = λ x held.
-      let apart : x ≢ slot = λ at. (let home = moves.moved in let out = subst (IsOut new.pages) at held.out in cc (home, out)) in
-      (record { out = sym (moves.others x apart) ∙ held.out; off = subst (λ (s : Option Shelved). IfSome s (λ o. o.slot ≢ x)) same held.off }, apart);
-  others =
-      λ x held apart. record { out = moves.others x apart ∙ held.out; off = subst (λ (s : Option Shelved). IfSome s (λ o. o.slot ≢ x)) (sym same) held.off };
-  counted = let one = ap (λ (s : Option Shelved). one_if s) same in let few = one_at_most old.shelf in omega (arith, counts, one, few);
-  shelf = same;
-}
-
 -- what is on a shelf stays out when another slot is taken, and when a page is reaped
 pub stands_taken : {X : Type 0} (slot_of : X → ℕ) (shelf : Option X) (old new : Pages) (slot : ℕ) → TakesOut old new slot
     → IfSome shelf (λ o. IsOut old (slot_of o)) → IfSome shelf (λ o. IsOut new (slot_of o))
 stands_taken slot_of None old new slot taken standing = tt
 stands_taken slot_of (Some o) old new slot taken standing = (taken.others (slot_of o) (λ same. taken.was_in (subst (IsOut old) same standing))).1 standing
-
-pub stands_reaped : {X : Type 0} (slot_of : X → ℕ) (shelf : Option X) (old new : Pages) (page : ℕ) → RemovesPage old new page
-    → ((slot : ℕ) → slot / 256 ≡ page → IsOut old slot → ⊥) → IfSome shelf (λ o. IsOut old (slot_of o))
-    → IfSome shelf (λ o. IsOut new (slot_of o))
-stands_reaped slot_of None old new page removed idle standing = tt
-stands_reaped slot_of (Some o) old new page removed idle standing = removed.others (slot_of o) (λ same. idle (slot_of o) same standing) ∙ standing
 
 -- what is said of the slot of what is on a shelf, however it is named
 pub told : {X : Type 0} (shelf : Option X) (f : X → Shelved) (P : ℕ → Type 0) → IfSome shelf (λ o. P (f o).slot) → IfSome (option_map f shelf) (λ o. P o.slot)

@@ -17,6 +17,7 @@ use ebpf_machine::report::Report;
 use ebpf_machine::run::StartFault;
 use ebpf_machine::workspace::Workspace;
 use ebpf_object::Object;
+use ebpf_state::kinds::KINDS;
 use std::alloc::{AllocError, Global};
 use std::marker::Model;
 use std::mem;
@@ -153,12 +154,12 @@ impl Machine {
     }
 
     /// What runs did to the objects of each kind so far, in the order of the kinds' numbers.
-    pub fn counts(&self) -> [Counts; 3] {
+    pub fn counts(&self) -> [Counts; KINDS] {
         self.stocks.counts()
     }
 
     /// Whether an object is on each shelf, in the order of the kinds' numbers.
-    pub fn shelved(&self) -> [bool; 3]
+    pub fn shelved(&self) -> [bool; KINDS]
         ensures { result ≡ is_some self.now.cells.shelf ∷ is_some self.now.records.shelf ∷ is_some self.now.blocks.shelf ∷ [] }
     {
         self.stocks.shelved()

@@ -41,10 +41,10 @@ impl Program {
         let Some(decl) = declared(context, held) else {
             return Err(LoadFault::Declaration);
         };
-        let rows = kinds();
-        let examined = examine(alloc, bytes, decl, &rows)?;
+        let kinds = kinds();
+        let examined = examine(alloc, bytes, decl, &kinds)?;
         let mut sentence = String::new(alloc);
-        write_why(alloc, &mut sentence, bytes, &examined, decl, &rows)?;
+        write_why(alloc, &mut sentence, bytes, &examined, decl, &kinds)?;
         match Judged::of(examined) {
             Judged::Accepted(verified) => Ok(Program { verified }),
             Judged::Refused { code, slot } => Err(LoadFault::Refused(Refusal {

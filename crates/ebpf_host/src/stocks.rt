@@ -9,6 +9,7 @@ ghost use Rattle.ebpf_host.specs.Stocks.{Holds, OthersStay, as_shelved, stock_of
 
 use crate::stock::{Counts, Stock};
 use ebpf_object::{KindName, Object, Offer, kind_named};
+use ebpf_state::kinds::KINDS;
 use slab_layer::{BlockKind, CellKind, Kind, RecordKind};
 use std::alloc::Global;
 use vmem_arena::{Arena, MAX_PAGES};
@@ -103,20 +104,13 @@ impl Stocks {
         ensures shelves { (kind : ℕ) → (stock_of self.new kind).shelf ≡ (stock_of self.old kind).shelf }
         ensures pages { self.new.arena.pages ≡ self.old.arena.pages }
     {
-        let Stocks {
-            arena,
-            cells,
-            records,
-            blocks,
-            ..
-        } = self;
-        reap_all(cells, arena);
-        reap_all(records, arena);
-        reap_all(blocks, arena);
+        reap_all(&mut self.cells, &mut self.arena);
+        reap_all(&mut self.records, &mut self.arena);
+        reap_all(&mut self.blocks, &mut self.arena);
     }
 
     /// What runs did to the objects of each kind so far, in the order of the kinds' numbers.
-    pub(crate) fn counts(&self) -> [Counts; 3] {
+    pub(crate) fn counts(&self) -> [Counts; KINDS] {
         [
             self.cells.counts(),
             self.records.counts(),
@@ -125,7 +119,7 @@ impl Stocks {
     }
 
     /// Whether an object is on each shelf.
-    pub(crate) fn shelved(&self) -> [bool; 3]
+    pub(crate) fn shelved(&self) -> [bool; KINDS]
         ensures { result ≡ is_some self.now.cells.shelf ∷ is_some self.now.records.shelf ∷ is_some self.now.blocks.shelf ∷ [] }
     {
         [

@@ -12,6 +12,7 @@ ghost use Rattle.ebpf_handle.specs.declared.view.ProgramView.{ProgramView};
 ghost use Rattle.ebpf_handle.specs.contracts.view.ProgramView.{the_row as view_row};
 ghost use Rattle.ebpf_host_c.specs.Handles.{IsRunReported, MachineGoes, PagesStay, ShelvesStay};
 ghost use Rattle.ebpf_host_c.specs.Reported.{IsReportWritten};
+ghost use Rattle.ebpf_host_c.specs.declared.status.TheConstants.{CONTEXT, DONE, EMPTY, NO_MEMORY, PAGES};
 
 use crate::reported::{Reported, write_report};
 use crate::status::{CONTEXT, DONE, EMPTY, NO_MEMORY, PAGES};
@@ -27,9 +28,9 @@ use vmem_arena::ArenaFault;
 /// Makes a machine whose objects lie on up to n pages, and frees what the handle held before.
 #[unsafe(no_mangle)]
 pub extern "C" fn ebpf_machine_new(alloc: Global, machine: &mut MachineHandle, pages: u32) -> u32
-    ensures made { result ≡ 0 → MatchOption machine.new.value ⊥ (λ m. (m.arena.pages ≡ pages) × ((kind : ℕ) → (stock_of m kind).shelf ≡ None)) }
-    ensures pages { (result ≡ 3) ↔ ((pages ≡ 0) ⊎ (MAX_PAGES < pages)) }
-    ensures statuses { (result ≡ 0) ⊎ (result ≡ 3) ⊎ (result ≡ 6) }
+    ensures made { result ≡ DONE → MatchOption machine.new.value ⊥ (λ m. (m.arena.pages ≡ pages) × ((kind : ℕ) → (stock_of m kind).shelf ≡ None)) }
+    ensures pages { (result ≡ PAGES) ↔ ((pages ≡ 0) ⊎ (MAX_PAGES < pages)) }
+    ensures statuses { (result ≡ DONE) ⊎ (result ≡ PAGES) ⊎ (result ≡ NO_MEMORY) }
     ensures kept { result ≢ 0 → machine.new.value ≡ machine.old.value }
 {
     match Machine::new(alloc, pages) {
@@ -56,7 +57,7 @@ pub extern "C" fn ebpf_machine_free(alloc: Global, machine: &mut MachineHandle)
 /// Gives the pages of a machine on which there is no object that is held or is on a shelf back to its arena.
 #[unsafe(no_mangle)]
 pub extern "C" fn ebpf_machine_reap(machine: &mut MachineHandle) -> u32
-    ensures status { MatchOption machine.old.value (result ≡ 5) (λ _. result ≡ 0) }
+    ensures status { MatchOption machine.old.value (result ≡ EMPTY) (λ _. result ≡ DONE) }
     ensures shelves { MachineGoes ShelvesStay machine.old.value machine.new.value }
     ensures pages { MachineGoes PagesStay machine.old.value machine.new.value }
 {
@@ -89,13 +90,13 @@ pub unsafe extern "C" fn ebpf_machine_run(
     requires* lasts { sem 𝓛 (flft loan.0 loan.1) }
     requires* lent { sem 𝓛 (lent_at view_row program loan.2 loan.0) }
     ensures* lasts { sem 𝓛 (flft loan.0 loan.1) }
-    ensures report { result ≡ 0 → IsRunReported loan.2.value machine.old.value machine.new.value context.now limit output.old output.new report.new }
+    ensures report { result ≡ DONE → IsRunReported loan.2.value machine.old.value machine.new.value context.now limit output.old output.new report.new }
     ensures pages { MachineGoes PagesStay machine.old.value machine.new.value }
     ensures unchanged { result ≢ 0 → machine.new.value ≡ machine.old.value }
     ensures unmade { result ≢ 0 → (output.new ≡ output.old) × (report.new ≡ report.old) }
-    ensures context { result ≡ 4 → MatchOption loan.2.value ⊥ (λ p. length context.now ≢ (arc_value p).verified.decl.context) }
-    ensures memory { result ≡ 6 → MatchOption loan.2.value ⊥ (λ p. length context.now ≡ (arc_value p).verified.decl.context) }
-    ensures empty { MatchOption machine.old.value (result ≡ 5) (λ _. MatchOption loan.2.value (result ≡ 5) (λ _. (result ≡ 0) ⊎ (result ≡ 4) ⊎ (result ≡ 6))) }
+    ensures context { result ≡ CONTEXT → MatchOption loan.2.value ⊥ (λ p. length context.now ≢ (arc_value p).verified.decl.context) }
+    ensures memory { result ≡ NO_MEMORY → MatchOption loan.2.value ⊥ (λ p. length context.now ≡ (arc_value p).verified.decl.context) }
+    ensures empty { MatchOption machine.old.value (result ≡ EMPTY) (λ _. MatchOption loan.2.value (result ≡ EMPTY) (λ _. (result ≡ DONE) ⊎ (result ≡ CONTEXT) ⊎ (result ≡ NO_MEMORY))) }
 {
     run_shown(
         machine,
@@ -116,14 +117,14 @@ fn run_shown(
     output: &mut [u64],
     report: &mut Reported,
 ) -> u32
-    ensures report { result ≡ 0 → IsRunReported program.now.value machine.old.value machine.new.value context.now limit output.old output.new report.new }
+    ensures report { result ≡ DONE → IsRunReported program.now.value machine.old.value machine.new.value context.now limit output.old output.new report.new }
     ensures pages { MachineGoes PagesStay machine.old.value machine.new.value }
     ensures unchanged { result ≢ 0 → machine.new.value ≡ machine.old.value }
     ensures unmade { result ≢ 0 → (output.new ≡ output.old) × (report.new ≡ report.old) }
-    ensures context { result ≡ 4 → MatchOption program.now.value ⊥ (λ p. length context.now ≢ (arc_value p).verified.decl.context) }
-    ensures memory { result ≡ 6 → MatchOption program.now.value ⊥ (λ p. length context.now ≡ (arc_value p).verified.decl.context) }
-    ensures empty { MatchOption machine.old.value (result ≡ 5) (λ _.
-        MatchOption program.now.value (result ≡ 5) (λ _. (result ≡ 0) ⊎ (result ≡ 4) ⊎ (result ≡ 6))) }
+    ensures context { result ≡ CONTEXT → MatchOption program.now.value ⊥ (λ p. length context.now ≢ (arc_value p).verified.decl.context) }
+    ensures memory { result ≡ NO_MEMORY → MatchOption program.now.value ⊥ (λ p. length context.now ≡ (arc_value p).verified.decl.context) }
+    ensures empty { MatchOption machine.old.value (result ≡ EMPTY) (λ _.
+        MatchOption program.now.value (result ≡ EMPTY) (λ _. (result ≡ DONE) ⊎ (result ≡ CONTEXT) ⊎ (result ≡ NO_MEMORY))) }
 {
     let Some(held) = machine.get_mut() else {
         return EMPTY;
@@ -143,13 +144,13 @@ fn run_held(
     output: &mut [u64],
     report: &mut Reported,
 ) -> u32
-    ensures report { result ≡ 0 → IsReportWritten machine.old machine.new program.now.verified context.now limit output.old output.new report.new }
+    ensures report { result ≡ DONE → IsReportWritten machine.old machine.new program.now.verified context.now limit output.old output.new report.new }
     ensures pages { machine.new.arena.pages ≡ machine.old.arena.pages }
     ensures unchanged { result ≢ 0 → machine.new ≡ machine.old }
     ensures unmade { result ≢ 0 → (output.new ≡ output.old) × (report.new ≡ report.old) }
-    ensures context { result ≡ 4 → length context.now ≢ program.now.verified.decl.context }
-    ensures memory { result ≡ 6 → length context.now ≡ program.now.verified.decl.context }
-    ensures statuses { (result ≡ 0) ⊎ (result ≡ 4) ⊎ (result ≡ 6) }
+    ensures context { result ≡ CONTEXT → length context.now ≢ program.now.verified.decl.context }
+    ensures memory { result ≡ NO_MEMORY → length context.now ≡ program.now.verified.decl.context }
+    ensures statuses { (result ≡ DONE) ⊎ (result ≡ CONTEXT) ⊎ (result ≡ NO_MEMORY) }
 {
     match machine.run_in_place(program, context, limit) {
         Ok(ended) => {

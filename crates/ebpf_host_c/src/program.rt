@@ -6,6 +6,8 @@ ghost use Rattle.std.specs.Option.{MatchOption};
 ghost use Rattle.ebpf_host.specs.Loading.{IsLoaded};
 ghost use Rattle.ebpf_host_c.specs.Objects.{HasFault, HasFunction, IsFunctionLoaded, IsFunctionRefused, IsRefusalOf};
 ghost use Rattle.ebpf_host_c.specs.Reported.{IsRefusalReported};
+ghost use Rattle.ebpf_host_c.specs.declared.status.TheConstants.{DECLARATION, DONE, NO_MEMORY, REFUSED};
+ghost use Rattle.ebpf_verify.specs.declared.decl.TheConstants.{MAX_CONTEXT, MAX_HELD};
 
 use crate::reported::{Refused, report_fault, report_refusal, report_refusal_with_line};
 use crate::share::keep;
@@ -28,12 +30,12 @@ pub extern "C" fn ebpf_program_load(
     text: &mut [u8],
     refused: &mut Refused,
 ) -> u32
-    ensures loaded { result ≡ 0 → MatchOption program.new.value ⊥ (λ p. IsLoaded bytes.now context held (arc_value p).verified) }
-    ensures refused { result ≡ 1 → IsRefusalReported bytes.now context held text.old text.new refused.new }
+    ensures loaded { result ≡ DONE → MatchOption program.new.value ⊥ (λ p. IsLoaded bytes.now context held (arc_value p).verified) }
+    ensures refused { result ≡ REFUSED → IsRefusalReported bytes.now context held text.old text.new refused.new }
     ensures untold { result ≢ 1 → (text.new ≡ text.old) × (refused.new ≡ refused.old) }
-    ensures declaration { result ≡ 2 → (4096 < context) ⊎ (64 < held) }
-    ensures memory { result ≡ 6 → (context ≤ 4096) × (held ≤ 64) }
-    ensures statuses { (result ≡ 0) ⊎ (result ≡ 1) ⊎ (result ≡ 2) ⊎ (result ≡ 6) }
+    ensures declaration { result ≡ DECLARATION → (MAX_CONTEXT < context) ⊎ (MAX_HELD < held) }
+    ensures memory { result ≡ NO_MEMORY → (context ≤ MAX_CONTEXT) × (held ≤ MAX_HELD) }
+    ensures statuses { (result ≡ DONE) ⊎ (result ≡ REFUSED) ⊎ (result ≡ DECLARATION) ⊎ (result ≡ NO_MEMORY) }
     ensures kept { result ≢ 0 → program.new.value ≡ program.old.value }
 {
     match Program::load(alloc, bytes, context, held) {
@@ -61,13 +63,13 @@ pub extern "C" fn ebpf_program_load_elf(
     text: &mut [u8],
     refused: &mut Refused,
 ) -> u32
-    ensures loaded { result ≡ 0 → MatchOption program.new.value ⊥ (λ p. IsFunctionLoaded bytes.now name.now context held (arc_value p).verified) }
-    ensures refused { result ≡ 1 → IsFunctionRefused bytes.now name.now context held text.old text.new refused.new }
+    ensures loaded { result ≡ DONE → MatchOption program.new.value ⊥ (λ p. IsFunctionLoaded bytes.now name.now context held (arc_value p).verified) }
+    ensures refused { result ≡ REFUSED → IsFunctionRefused bytes.now name.now context held text.old text.new refused.new }
     ensures untold { result ≢ 1 → (text.new ≡ text.old) × (refused.new ≡ refused.old) }
     // The file is judged first.
-    ensures declaration { result ≡ 2 → HasFunction bytes.now name.now × ((4096 < context) ⊎ (64 < held)) }
-    ensures memory { result ≡ 6 → HasFault bytes.now name.now ⊎ ((context ≤ 4096) × (held ≤ 64)) }
-    ensures statuses { (result ≡ 0) ⊎ (result ≡ 1) ⊎ (result ≡ 2) ⊎ (result ≡ 6) }
+    ensures declaration { result ≡ DECLARATION → HasFunction bytes.now name.now × ((MAX_CONTEXT < context) ⊎ (MAX_HELD < held)) }
+    ensures memory { result ≡ NO_MEMORY → HasFault bytes.now name.now ⊎ ((context ≤ MAX_CONTEXT) × (held ≤ MAX_HELD)) }
+    ensures statuses { (result ≡ DONE) ⊎ (result ≡ REFUSED) ⊎ (result ≡ DECLARATION) ⊎ (result ≡ NO_MEMORY) }
     ensures kept { result ≢ 0 → program.new.value ≡ program.old.value }
 {
     match wanted_function(bytes, name) {
@@ -95,12 +97,12 @@ fn load_function(
     refused: &mut Refused,
 ) -> u32
     requires { function.place.from ≤ length file.now }
-    ensures loaded { result ≡ 0 → MatchOption program.new.value ⊥ (λ p. IsLoaded function.entry.code.now context held (arc_value p).verified) }
-    ensures refused { result ≡ 1 → IsRefusalOf file.now function.entry context held text.old text.new refused.new }
+    ensures loaded { result ≡ DONE → MatchOption program.new.value ⊥ (λ p. IsLoaded function.entry.code.now context held (arc_value p).verified) }
+    ensures refused { result ≡ REFUSED → IsRefusalOf file.now function.entry context held text.old text.new refused.new }
     ensures untold { result ≢ 1 → (text.new ≡ text.old) × (refused.new ≡ refused.old) }
-    ensures declaration { result ≡ 2 → (4096 < context) ⊎ (64 < held) }
-    ensures memory { result ≡ 6 → (context ≤ 4096) × (held ≤ 64) }
-    ensures statuses { (result ≡ 0) ⊎ (result ≡ 1) ⊎ (result ≡ 2) ⊎ (result ≡ 6) }
+    ensures declaration { result ≡ DECLARATION → (MAX_CONTEXT < context) ⊎ (MAX_HELD < held) }
+    ensures memory { result ≡ NO_MEMORY → (context ≤ MAX_CONTEXT) × (held ≤ MAX_HELD) }
+    ensures statuses { (result ≡ DONE) ⊎ (result ≡ REFUSED) ⊎ (result ≡ DECLARATION) ⊎ (result ≡ NO_MEMORY) }
     ensures kept { result ≢ 0 → program.new.value ≡ program.old.value }
 {
     match Program::load(alloc, function.code, context, held) {

@@ -9,6 +9,7 @@ ghost use Rattle.std.specs.Option.{MatchOption};
 ghost use Rattle.ebpf_handle.specs.declared.view.ProgramView.{ProgramView};
 ghost use Rattle.ebpf_handle.specs.contracts.view.ProgramView.{the_row as view_row};
 ghost use Rattle.ebpf_host_c.specs.Handles.{HoldTheSame};
+ghost use Rattle.ebpf_host_c.specs.declared.status.TheConstants.{DONE, EMPTY, NO_MEMORY};
 
 use crate::status::{DONE, EMPTY, NO_MEMORY};
 use ebpf_handle::program::ProgramHandle;
@@ -19,8 +20,8 @@ use std::sync::Arc;
 
 /// Puts a loaded program into a handle, and frees what the handle held before.
 pub(crate) fn keep(alloc: Global, program: &mut ProgramHandle, loaded: Program) -> u32
-    ensures kept { result ≡ 0 → MatchOption program.new.value ⊥ (λ p. arc_value p ≡ loaded) }
-    ensures statuses { (result ≡ 0) ⊎ (result ≡ 6) }
+    ensures kept { result ≡ DONE → MatchOption program.new.value ⊥ (λ p. arc_value p ≡ loaded) }
+    ensures statuses { (result ≡ DONE) ⊎ (result ≡ NO_MEMORY) }
     ensures unchanged { result ≢ 0 → program.new.value ≡ program.old.value }
 {
     match Arc::new(alloc, loaded) {
@@ -44,8 +45,8 @@ pub unsafe extern "C" fn ebpf_program_share(
     requires* lasts { sem 𝓛 (flft loan.0 loan.1) }
     requires* lent { sem 𝓛 (lent_at view_row program loan.2 loan.0) }
     ensures* lasts { sem 𝓛 (flft loan.0 loan.1) }
-    ensures shared { result ≡ 0 → HoldTheSame loan.2.value other.new.value }
-    ensures statuses { MatchOption loan.2.value (result ≡ 5) (λ _. (result ≡ 0) ⊎ (result ≡ 6)) }
+    ensures shared { result ≡ DONE → HoldTheSame loan.2.value other.new.value }
+    ensures statuses { MatchOption loan.2.value (result ≡ EMPTY) (λ _. (result ≡ DONE) ⊎ (result ≡ NO_MEMORY)) }
     ensures unchanged { result ≢ 0 → other.new.value ≡ other.old.value }
 {
     share_shown(alloc, other, unsafe { &*(program as *const ProgramView) })
@@ -53,8 +54,8 @@ pub unsafe extern "C" fn ebpf_program_share(
 
 // The same with a handle that is shown.
 fn share_shown(alloc: Global, other: &mut ProgramHandle, program: &ProgramView) -> u32
-    ensures shared { result ≡ 0 → HoldTheSame program.now.value other.new.value }
-    ensures statuses { MatchOption program.now.value (result ≡ 5) (λ _. (result ≡ 0) ⊎ (result ≡ 6)) }
+    ensures shared { result ≡ DONE → HoldTheSame program.now.value other.new.value }
+    ensures statuses { MatchOption program.now.value (result ≡ EMPTY) (λ _. (result ≡ DONE) ⊎ (result ≡ NO_MEMORY)) }
     ensures unchanged { result ≢ 0 → other.new.value ≡ other.old.value }
 {
     match program.get() {
@@ -65,8 +66,8 @@ fn share_shown(alloc: Global, other: &mut ProgramHandle, program: &ProgramView) 
 
 // The same with what the handle holds.
 fn share_held(alloc: Global, other: &mut ProgramHandle, held: &Arc<Program>) -> u32
-    ensures shared { result ≡ 0 → MatchOption other.new.value ⊥ (λ o. arc_value o ≡ arc_value held.now) }
-    ensures statuses { (result ≡ 0) ⊎ (result ≡ 6) }
+    ensures shared { result ≡ DONE → MatchOption other.new.value ⊥ (λ o. arc_value o ≡ arc_value held.now) }
+    ensures statuses { (result ≡ DONE) ⊎ (result ≡ NO_MEMORY) }
     ensures unchanged { result ≢ 0 → other.new.value ≡ other.old.value }
 {
     match Arc::try_clone(held) {
@@ -77,8 +78,8 @@ fn share_held(alloc: Global, other: &mut ProgramHandle, held: &Arc<Program>) -> 
 
 // Puts a share of a program into a handle.
 fn put_share(alloc: Global, program: &mut ProgramHandle, shared: Arc<Program>) -> u32
-    ensures put { result ≡ 0 → MatchOption program.new.value ⊥ (λ p. arc_value p ≡ arc_value shared) }
-    ensures statuses { (result ≡ 0) ⊎ (result ≡ 6) }
+    ensures put { result ≡ DONE → MatchOption program.new.value ⊥ (λ p. arc_value p ≡ arc_value shared) }
+    ensures statuses { (result ≡ DONE) ⊎ (result ≡ NO_MEMORY) }
     ensures unchanged { result ≢ 0 → program.new.value ≡ program.old.value }
 {
     match Box::new(alloc, shared) {

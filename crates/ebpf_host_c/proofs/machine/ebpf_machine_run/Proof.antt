@@ -6,7 +6,8 @@ use mir.Val.{Val, vptr, vint, has_ty, WT}
 use base.Logic.{SProp, never, fst∗, id⊢}
 use base.Fml.{Lft, Share, ftrue, flft}
 use prog.Wp.{WpFn}
-use types.Kit.{‵, raw, ◌⊛◌, some, later, prop, at_ret, ◌$◌, ◌∵◌, !, qed, by, move, keep, drop, split, join, fsplit, fjoin, pick, group, use1, await, regoal, feq_i}
+use types.Kit.{‵, raw, ◌⊛◌, some, later, prop, at_ret, ◌$◌, ◌∵◌, !, qed, by, move, keep, drop, split, join, fsplit, fjoin, pick, group, use1}
+use types.Kit.{await, regoal, feq_i}
 use types.Run.{stop, from, hop, fld, addr, of_opd, no_more, and_then, first, blocks, exec, returns, enter}
 use types.ByLocal.{alloc_all, pass_all, free_all, look_at, get, get_in, through, sets, sets_last, lands_as, env}
 use types.Part.{agg, sub, whole, look_in}

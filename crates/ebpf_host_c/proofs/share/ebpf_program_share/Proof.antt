@@ -5,7 +5,8 @@ use mir.Val.{Val, vptr}
 use base.Logic.{SProp, ent, never, fst∗, id⊢}
 use base.Fml.{Lft, Share, ftrue, flft}
 use prog.Wp.{WpFn}
-use types.Kit.{‵, raw, ◌⊛◌, some, later, at_ret, ◌$◌, ◌∵◌, !, qed, by, move, keep, drop, split, join, fsplit, fjoin, pick, group, use1, await, rewrite, feq_i, suffices}
+use types.Kit.{‵, raw, ◌⊛◌, some, later, at_ret, ◌$◌, ◌∵◌, !, qed, by, move, keep, drop, split, join, fsplit, fjoin, pick, group, use1, await}
+use types.Kit.{rewrite, feq_i, suffices}
 use types.Run.{stop, addr, of_opd, no_more, and_then, first, blocks, exec, returns, enter}
 use types.ByLocal.{alloc_all, pass_all, free_all, look_at, get, through, sets, sets_last, lands_as, env}
 use types.Logic.{sem}

@@ -9,28 +9,28 @@ use Rattle.ebpf_explain.specs.Why.{why_of}
 use Rattle.ebpf_host.proofs.program.Program.load.Goals as goal
 
 pub examine-requires : goal.examine-requires
-examine-requires c = AreRows-kinds c.kinds-rows.result c.kinds-rows.ensures
+examine-requires c = AreRows-kinds c.kinds-kinds.result c.kinds-kinds.ensures
 
 pub write_why-requires : goal.write_why-requires
-write_why-requires c = AreRows-kinds c.kinds-rows.result c.kinds-rows.ensures
+write_why-requires c = AreRows-kinds c.kinds-kinds.result c.kinds-kinds.ensures
 
 pub invariant_of-result : goal.invariant_of-result
 invariant_of-result c =
-    let judged : IsJudged c.args.bytes.now c.in-Some.decl c.kinds-rows.result (Accepted c.in-Accepted.verified) = record {
+    let judged : IsJudged c.args.bytes.now c.in-Some.decl c.kinds-kinds.result (Accepted c.in-Accepted.verified) = record {
       examined = c.in_ok-examined.examined;
       is_examined = c.in_ok-examined.ensures;
       is = sym c.in-Accepted.is ∙ c.of.ensures;
     } in record {
-      kinds = ap kinds_of (accepted_rows c.args.bytes.now c.in-Some.decl c.kinds-rows.result (Accepted c.in-Accepted.verified) c.in-Accepted.verified judged refl)
-          ∙ kinds_known c.kinds-rows.result c.kinds-rows.ensures;
+      kinds = ap kinds_of (accepted_rows c.args.bytes.now c.in-Some.decl c.kinds-kinds.result (Accepted c.in-Accepted.verified) c.in-Accepted.verified judged refl)
+          ∙ kinds_known c.kinds-kinds.result c.kinds-kinds.ensures;
     }
 
 pub returns-in-Accepted-clause-loaded : goal.returns-in-Accepted-clause-loaded
 returns-in-Accepted-clause-loaded c =
     let value = c.in-Some.ensures.value in record {
       decl = c.in-Some.decl;
-      rows = c.kinds-rows.result;
-      declared = record { context_is = value.0; held_is = value.1; kinds = c.kinds-rows.ensures };
+      rows = c.kinds-kinds.result;
+      declared = record { context_is = value.0; held_is = value.1; kinds = c.kinds-kinds.ensures };
       is = record { examined = c.in_ok-examined.examined; is_examined = c.in_ok-examined.ensures; is = sym c.in-Accepted.is ∙ c.of.ensures };
     }
 
@@ -39,14 +39,14 @@ returns-in-Refused-clause-refused c =
     let value = c.in-Some.ensures.value in record {
       judged = record {
         decl = c.in-Some.decl;
-        rows = c.kinds-rows.result;
-        declared = record { context_is = value.0; held_is = value.1; kinds = c.kinds-rows.ensures };
+        rows = c.kinds-kinds.result;
+        declared = record { context_is = value.0; held_is = value.1; kinds = c.kinds-kinds.ensures };
         is = record { examined = c.in_ok-examined.examined; is_examined = c.in_ok-examined.ensures; is = sym c.in-Refused.is ∙ c.of.ensures };
       };
       why = record {
         examined = c.in_ok-examined.examined;
         is_examined = c.in_ok-examined.ensures;
         is = c.in_ok-write_why.ensures
-            ∙ ap (λ (text : List ℕ). text ++ why_of c.args.bytes.now c.in-Some.decl c.kinds-rows.result c.in_ok-examined.examined) c.new-sentence.ensures.bytes;
+            ∙ ap (λ (text : List ℕ). text ++ why_of c.args.bytes.now c.in-Some.decl c.kinds-kinds.result c.in_ok-examined.examined) c.new-sentence.ensures.bytes;
       };
     }
