@@ -13,7 +13,8 @@ use Rattle.ebpf_machine.specs.RunState.{RunState, slots_kept}
 use Rattle.ebpf_machine.specs.Store.{Store}
 use Rattle.ebpf_machine.specs.Sound.{AreSized, IsOwned, IsSound}
 use Rattle.ebpf_machine.specs.Whole.{granted, refused}
-use Rattle.ebpf_machine.specs.Step.{Served, Idle, Refused, Granted, Empty, Fetched, MayAnswer, MayServe, offers_of, answer_for, told_by, asking_in, seen_in, served_from, served_in}
+use Rattle.ebpf_machine.specs.Step.{Served, Idle, Refused, Granted, Empty, Fetched, MayAnswer, MayServe, offers_of, answer_for, told_by, asking_in}
+use Rattle.ebpf_machine.specs.Step.{seen_in, served_from, served_in}
 use Rattle.ebpf_machine.proofs.World.Asking.{AsksNew, Asks, ForNothing, ForObject, ForShelf, asks_of}
 use Rattle.ebpf_machine.proofs.World.Execs.{kinds_alike, shown_run, sized_in}
 use Rattle.ebpf_machine.proofs.World.KeptShelves.{shelved_joined}

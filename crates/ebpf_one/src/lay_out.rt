@@ -124,8 +124,12 @@ fn answer_program(alloc: Global, format: Format, program: &Program) -> Result<An
     }
 }
 
-// The answer with a program that was laid out: its bytes as hex, on one line.
-fn answer_laid(alloc: Global, format: Format, laid: &Program) -> Result<Answer, AllocError>
+/// The answer with a program that was laid out: its bytes as hex, on one line. It fails only where an allocation fails.
+pub(crate) fn answer_laid(
+    alloc: Global,
+    format: Format,
+    laid: &Program,
+) -> Result<Answer, AllocError>
     ensures { IfOk result (IsHexOf format laid.now) }
 {
     let bytes = encode(alloc, laid)?;
@@ -150,8 +154,8 @@ fn hex_text(alloc: Global, format: Format, bytes: &[u8]) -> Result<String, Alloc
     }
 }
 
-// The answer to a program that can't be laid out.
-fn answer_layout_fault(
+/// The answer to a program that can't be laid out. It fails only where an allocation fails.
+pub(crate) fn answer_layout_fault(
     alloc: Global,
     format: Format,
     program: &Program,
@@ -171,8 +175,8 @@ fn answer_layout_fault(
     }
 }
 
-// A text that refuses a program.
-fn refused(text: String) -> Result<Answer, AllocError>
+/// A text that refuses a program.
+pub(crate) fn refused(text: String) -> Result<Answer, AllocError>
     ensures { IfOk result (λ answer. answer ≡ refused_response (string_bytes text)) }
 {
     Ok(Answer {

@@ -1,11 +1,13 @@
-//! The commands that run or write one program: `one` runs it, `list` writes its instructions, and `lay_out` puts them in an order in which
-//! every jump goes forward.
+//! The commands that run or write one program: `one` runs it, `list` writes its instructions, `lay_out` puts them in an order in which
+//! every jump goes forward, and `unroll` unrolls its loops.
 //!
 //! What each writes is a function of what it reads and of what is asked, errors included, and it writes nothing else: that is the contract of
-//! [`one::one`], [`list::list`] and [`lay_out::lay_out`]. The program that an input gives comes from ebpf_input, and all else rests on the
-//! contracts of the crates below. This crate adds what the three ask for and the lines of their texts.
+//! [`one::one`], [`list::list`], [`lay_out::lay_out`] and [`unroll::unroll`]. Of a loop that can't be unrolled `unroll` says what it knows,
+//! which the contract leaves open. The program that an input gives comes from ebpf_input, and all else rests on the contracts of the crates
+//! below. This crate adds what the four ask for and the lines of their texts.
 //!
-//! To be read in this order: `alone`, `text`, `json_text`, `answer`, `one`, `source_list`, `list`, `lay_out`.
+//! To be read in this order: `alone`, `text`, `json_text`, `answer`, `one`, `source_list`, `list`, `lay_out`; `under`, `loop_text`,
+//! `visit_text`, `running`, `unrolled`, `unroll`.
 #![tactic(auto)]
 
 mod alone;
@@ -13,6 +15,12 @@ mod answer;
 mod json_text;
 pub mod lay_out;
 pub mod list;
+mod loop_text;
 pub mod one;
+mod running;
 mod source_list;
 mod text;
+mod under;
+pub mod unroll;
+mod unrolled;
+mod visit_text;

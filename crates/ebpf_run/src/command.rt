@@ -25,6 +25,10 @@ const GRAPH_EXAMPLE: &str = "Example: echo 'b700000007000000 9500000000000000' |
 const LAY_OUT_EXAMPLE: &str =
     "Example: echo '05000100000000009500000000000000b7000000070000000500fdff00000000' | ebpf_run lay-out";
 
+// After the help of `unroll`.
+const UNROLL_EXAMPLE: &str =
+    "Example: printf 'mov64 r0, 5\\nagain: sub64 r0, 1\\njne64 r0, 0, again\\nexit\\n' | ebpf_run assemble | ebpf_run unroll";
+
 // After the help of `assemble`.
 const ASSEMBLE_EXAMPLE: &str =
     "Example: printf 'mov64 r0, 7\\nexit\\n' | ebpf_run assemble | ebpf_run one";
@@ -66,6 +70,7 @@ pub enum Task<'a> {
     Explain(ExplainOptions<'a>),
     Graph(GraphOptions<'a>),
     LayOut(LayOutOptions<'a>),
+    Unroll(Ask<'a>),
     Assemble,
     Check(CheckOptions),
     Replay(Format),
@@ -80,6 +85,8 @@ pub struct OneOptions<'a> {
     pub ask: Ask<'a>,
     /// Whether each call of `new` is answered null.
     pub nulls: bool,
+    /// Whether the loops of the program are unrolled first.
+    pub unroll: bool,
 }
 
 /// The options of `explain`.
@@ -145,6 +152,7 @@ pub fn command<'a>(alloc: Global) -> Result<Command<'a>, AllocError> {
     let explain = explain_command(alloc)?;
     let graph = graph_command(alloc)?;
     let lay_out = lay_out_command(alloc)?;
+    let unroll = unroll_command(alloc)?;
     let assemble = assemble_command(alloc)?;
     let check = check_command(alloc)?;
     let replay = replay_command(alloc)?;
@@ -159,6 +167,7 @@ pub fn command<'a>(alloc: Global) -> Result<Command<'a>, AllocError> {
         .subcommand(explain)?
         .subcommand(graph)?
         .subcommand(lay_out)?
+        .subcommand(unroll)?
         .subcommand(assemble)?
         .subcommand(check)?
         .subcommand(replay)?
@@ -171,7 +180,8 @@ fn one_command<'a>(alloc: Global) -> Result<Command<'a>, AllocError> {
         .about("Runs a program once")
         .after_help(ONE_EXAMPLE)
         .arg(json_option(alloc))?
-        .arg(nulls_option(alloc))?;
+        .arg(nulls_option(alloc))?
+        .arg(unroll_option(alloc))?;
     with_judged_program(alloc, one)
 }
 
@@ -246,6 +256,13 @@ fn nulls_option<'a>(alloc: Global) -> Arg<'a> {
         .help("Answers each call of new with null")
 }
 
+fn unroll_option<'a>(alloc: Global) -> Arg<'a> {
+    Arg::new(alloc, "unroll")
+        .long("unroll")
+        .action(ArgAction::SetTrue)
+        .help("Unrolls the loops of the program first")
+}
+
 fn list_command<'a>(alloc: Global) -> Result<Command<'a>, AllocError> {
     let list = Command::new(alloc, "list")
         .about("Lists the instructions of a program")
@@ -261,6 +278,14 @@ fn lay_out_command<'a>(alloc: Global) -> Result<Command<'a>, AllocError> {
         .after_help(LAY_OUT_EXAMPLE)
         .arg(json_option(alloc))?;
     with_program(alloc, lay_out)
+}
+
+fn unroll_command<'a>(alloc: Global) -> Result<Command<'a>, AllocError> {
+    let unroll = Command::new(alloc, "unroll")
+        .about("Unrolls the loops of a program, where each of its runs ends")
+        .after_help(UNROLL_EXAMPLE)
+        .arg(json_option(alloc))?;
+    with_judged_program(alloc, unroll)
 }
 
 fn assemble_command<'a>(alloc: Global) -> Result<Command<'a>, AllocError> {
@@ -372,6 +397,7 @@ fn task_of<'a>(name: &str, given: &ArgMatches<'a>) -> Option<Task<'a>> {
         "explain" => Some(Task::Explain(explain_options(given))),
         "graph" => Some(Task::Graph(graph_options(given))),
         "lay-out" => Some(Task::LayOut(lay_out_options(given))),
+        "unroll" => Some(Task::Unroll(asked(given, format_of(given)))),
         "assemble" => Some(Task::Assemble),
         "check" => Some(Task::Check(check_options(given))),
         "replay" => Some(Task::Replay(format_of(given))),
@@ -407,6 +433,7 @@ fn one_options<'a>(given: &ArgMatches<'a>) -> OneOptions<'a> {
     OneOptions {
         ask: asked(given, format_of(given)),
         nulls: given.get_flag("nulls"),
+        unroll: given.get_flag("unroll"),
     }
 }
 

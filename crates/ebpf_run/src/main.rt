@@ -4,9 +4,10 @@
 //! what it reads and of its options, errors included, and it writes nothing else. That is the contract of [`one`] and [`list`], which
 //! read hex and write plain text; of [`ebpf_one::one::one`], [`ebpf_one::list::list`], [`ebpf_show::explain::explain`],
 //! [`ebpf_show::graph::graph`] and [`ebpf_one::lay_out::lay_out`]; of [`ebpf_assemble::assemble::assemble`],
-//! [`ebpf_script::check_script::check_script`] and [`ebpf_script::replay_script::replay_script`]. What `run` writes is such a text for
-//! some outcome of the jobs, since threads decide which requests for objects are granted and what is found on a shelf: that is the
-//! contract of [`ebpf_script::run_script::run_script`]. `stream` answers each line of its input, and has its own contract:
+//! [`ebpf_script::check_script::check_script`] and [`ebpf_script::replay_script::replay_script`]. What [`ebpf_one::unroll::unroll`] and
+//! [`ebpf_one::unroll::one_unrolled`] say of a loop that they can't unroll is not promised word for word. What `run` writes is such a text for some outcome of the jobs, since threads
+//! decide which requests for objects are granted and what is found on a shelf: that is the contract of
+//! [`ebpf_script::run_script::run_script`]. `stream` answers each line of its input, and has its own contract:
 //! [`ebpf_stream::stream::stream`]. These are all that it calls.
 #![tactic(auto)]
 
@@ -25,6 +26,7 @@ use ebpf_assemble::assemble::assemble;
 use ebpf_command::done::{Done, EngineFault};
 use ebpf_command::input::MAX_INPUT;
 use ebpf_one::lay_out::lay_out;
+use ebpf_one::unroll::unroll;
 use ebpf_report::meter::{Meter, MissMeter};
 use ebpf_report::watch::{TABLE_BYTES, Watch};
 use ebpf_script::check_script::check_script;
@@ -128,6 +130,7 @@ fn perform<R: AllocGlobal + Clock + Eprint + Input + Print + Threads + Wait + Sy
             options.format,
             &options.input,
         ),
+        Task::Unroll(ask) => unroll(alloc, reader, &mut writer, &ask),
         Task::Assemble => assemble(alloc, reader, &mut writer),
         Task::Check(options) => {
             check_script(alloc, reader, &mut writer, options.format, options.explain)

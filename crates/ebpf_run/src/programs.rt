@@ -8,6 +8,7 @@ use ebpf_input::ask::Input;
 use ebpf_input::form::Form;
 use ebpf_one::list::list as list_program;
 use ebpf_one::one::one as run_program;
+use ebpf_one::unroll::one_unrolled;
 use std::alloc::Global;
 use std::io::{Read, Write};
 
@@ -18,7 +19,10 @@ pub fn perform_one<R: Read, W: Write>(
     writer: &mut W,
     options: OneOptions<'_>,
 ) -> Result<Done, EngineFault> {
-    let OneOptions { ask, nulls } = options;
+    let OneOptions { ask, nulls, unroll } = options;
+    if unroll {
+        return one_unrolled(alloc, reader, writer, &ask, nulls);
+    }
     match (ask.input, ask.format) {
         (Input::Program(Form::Hex), Format::Text) => {
             one(alloc, reader, writer, ask.context, ask.held, nulls)

@@ -1,0 +1,59 @@
+//! Runs of programs that were laid out, or whose loops were unrolled.
+
+ghost use Rattle.std.specs.Prelude.{◌≡◌, IfOk, length};
+ghost use Rattle.ebpf_machine.specs.World.{kinds_of};
+ghost use Rattle.ebpf_machine.specs.Kinds.{known_kinds};
+ghost use Rattle.ebpf_state.specs.Kinds.{AreKinds};
+ghost use Rattle.ebpf_flow.specs.Flow.{flow_fault};
+ghost use Rattle.std.specs.Prelude.{None};
+ghost use Rattle.ebpf_one.specs.RunText.{RunsJudged};
+
+use crate::answer::answer_verified;
+use ebpf_command::answer::Answer;
+use ebpf_command::codes::RefusalCode;
+use ebpf_command::format::Format;
+use ebpf_flow::check::check;
+use ebpf_flow::fault::FlowFault;
+use ebpf_input::in_format::answer_refused;
+use ebpf_insn::program::Program;
+use ebpf_state::kinds::KindRow;
+use ebpf_verify::decl::Decl;
+use ebpf_verify::fault::VerifyFault;
+use ebpf_verify::verify::verify;
+use std::alloc::{AllocError, Global};
+
+/// A run that is asked for: its context, and whether each call of `new` is answered null.
+#[derive(Drop)]
+pub(crate) struct Running {
+    pub(crate) context: Vec<u8>,
+    pub(crate) nulls: bool,
+}
+
+/// The response to a program whose flow has no fault: what its run did, or where the verifier refuses it. It fails only where an allocation
+/// fails.
+pub(crate) fn run_laid(
+    alloc: Global,
+    format: Format,
+    program: Program,
+    decl: Decl,
+    kinds: &[KindRow],
+    run: Running,
+) -> Result<Answer, AllocError>
+    requires kinds { AreKinds kinds.now }
+    requires fine { flow_fault program ≡ None }
+    requires declared { decl.context ≡ length run.context.items }
+    ensures { IfOk result (RunsJudged format run (record { program = program; decl = decl; rows = kinds.now })) }
+{
+    let flowed = match check(alloc, program) {
+        Ok(flowed) => flowed,
+        Err(FlowFault::Bad { .. }) => unreachable!(),
+        Err(FlowFault::NoMemory) => return Err(AllocError),
+    };
+    match verify(alloc, flowed, decl, kinds) {
+        Ok(verified) => answer_verified(alloc, format, &verified, run.context, run.nulls),
+        Err(VerifyFault::Refused { slot, code }) => {
+            answer_refused(alloc, format, RefusalCode::Verify(code).name(), slot)
+        }
+        Err(VerifyFault::NoMemory) => Err(AllocError),
+    }
+}

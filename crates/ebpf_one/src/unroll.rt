@@ -1,0 +1,245 @@
+//! The command `unroll`: one program with its loops unrolled.
+
+ghost use Rattle.std.specs.Prelude.{◌≡◌, None, Some, IfOk, IfSome, length};
+ghost use Rattle.ebpf_insn.specs.Decoding.{decode_fault};
+ghost use Rattle.ebpf_state.specs.Kinds.{AreKinds};
+ghost use Rattle.ebpf_command.specs.Writing.{Performs};
+ghost use Rattle.ebpf_one.specs.UnrollText.{UnrollsInput, UnrollsObject, UnrollsTo, UnrollsBytes, UnrollsDecoded, UnrollsProgram, slot_of};
+
+use crate::lay_out::{answer_laid, answer_layout_fault};
+use crate::loop_text::BackEdge;
+use crate::running::{Running, run_laid};
+use crate::under::{InFile, SlotAnswer, with_line};
+use crate::unrolled::{Looping, unroll_loops};
+use ebpf_command::answer::{Answer, write_answer};
+use ebpf_command::done::{Done, EngineFault, Stop};
+use ebpf_command::format::Format;
+use ebpf_command::input::{MAX_INPUT, read_input};
+use ebpf_input::ask::{Ask, Input};
+use ebpf_input::form::Form;
+use ebpf_input::input_faults::{answer_undecoded, answer_unused};
+use ebpf_input::object::answer_object_fault;
+use ebpf_input::request::{Request, requested};
+use ebpf_insn::decode::decode;
+use ebpf_insn::fault::DecodeFault;
+use ebpf_insn::program::Program;
+use ebpf_layout::fault::LayoutFault;
+use ebpf_layout::layout::lay_out;
+use ebpf_object_file::function::wanted_function;
+use ebpf_state::kinds::{KindRow, kinds};
+use ebpf_verify::decl::Decl;
+use std::alloc::{AllocError, Global};
+use std::io::{Read, Write};
+
+/// Reads a program and writes it in a format as hex with its loops unrolled, so that every jump leads forward; one without loops as
+/// [`crate::lay_out::lay_out`] does. Or it writes why the program can't be unrolled, with the line of C of an object file.
+///
+/// # Errors
+/// `Input` where a read failed and `NoMemory` where an allocation failed: nothing was written then. `Output` where a write
+/// failed or took nothing.
+pub fn unroll<R: Read, W: Write>(
+    alloc: Global,
+    reader: &mut R,
+    writer: &mut W,
+    ask: &Ask<'_>,
+) -> Result<Done, EngineFault>
+    ensures { Performs (UnrollsInput ask.now None) (R.remaining reader.old) (R.remaining reader.new)
+        (W.contents writer.old) (W.contents writer.new) writer.old writer.new result }
+{
+    respond(alloc, reader, writer, ask, None)
+}
+
+/// Reads a program, unrolls its loops as [`unroll`] does, runs it on a context and writes what it did as [`crate::one::one`] does. Or it writes
+/// why the program can't be unrolled, as [`unroll`] does, or is refused.
+///
+/// # Errors
+/// `Input` where a read failed and `NoMemory` where an allocation failed: nothing was written then. `Output` where a write
+/// failed or took nothing.
+pub fn one_unrolled<R: Read, W: Write>(
+    alloc: Global,
+    reader: &mut R,
+    writer: &mut W,
+    ask: &Ask<'_>,
+    nulls: bool,
+) -> Result<Done, EngineFault>
+    ensures { Performs (UnrollsInput ask.now (Some nulls)) (R.remaining reader.old) (R.remaining reader.new)
+        (W.contents writer.old) (W.contents writer.new) writer.old writer.new result }
+{
+    respond(alloc, reader, writer, ask, Some(nulls))
+}
+
+// Reads the input, answers it, and writes the answer. The program is written, or run if it is said whether calls of `new` are answered null.
+fn respond<R: Read, W: Write>(
+    alloc: Global,
+    reader: &mut R,
+    writer: &mut W,
+    ask: &Ask<'_>,
+    nulls: Option<bool>,
+) -> Result<Done, EngineFault>
+    ensures { Performs (UnrollsInput ask.now nulls) (R.remaining reader.old) (R.remaining reader.new)
+        (W.contents writer.old) (W.contents writer.new) writer.old writer.new result }
+{
+    let input = read_input(alloc, reader)?;
+    let answer = unroll_asked(alloc, ask, &input, nulls)?;
+    write_answer(writer, answer)
+}
+
+// The response to an input, by what it is.
+fn unroll_asked(
+    alloc: Global,
+    ask: &Ask<'_>,
+    input: &[u8],
+    nulls: Option<bool>,
+) -> Result<Answer, AllocError>
+    ensures { IfOk result (UnrollsInput ask.now nulls input.now) }
+{
+    match ask.input {
+        Input::Program(form) => unroll_input(alloc, ask, form, input, nulls, None),
+        Input::Object(name) => unroll_object(alloc, ask, name, input, nulls),
+    }
+}
+
+// The response to an object file.
+fn unroll_object(
+    alloc: Global,
+    ask: &Ask<'_>,
+    name: &str,
+    file: &[u8],
+    nulls: Option<bool>,
+) -> Result<Answer, AllocError>
+    ensures { IfOk result (UnrollsObject ask.now nulls name.now file.now) }
+{
+    if file.len() > MAX_INPUT {
+        return unroll_input(alloc, ask, Form::Raw, file, nulls, None);
+    }
+    match wanted_function(file, name.as_bytes()) {
+        Ok(function) => {
+            let place = function.place;
+            unroll_input(
+                alloc,
+                ask,
+                Form::Raw,
+                function.code,
+                nulls,
+                Some(InFile { file, place }),
+            )
+        }
+        Err(fault) => answer_object_fault(alloc, ask.format, file, fault),
+    }
+}
+
+// The response to a program in a form.
+fn unroll_input(
+    alloc: Global,
+    ask: &Ask<'_>,
+    form: Form,
+    input: &[u8],
+    nulls: Option<bool>,
+    function: Option<InFile<'_>>,
+) -> Result<Answer, AllocError>
+    ensures { IfOk result (UnrollsTo ask.now nulls function.entry form input.now) }
+{
+    match requested(alloc, form, input, ask.context, ask.held) {
+        Ok(request) => unroll_request(alloc, ask.format, request, nulls, function),
+        Err(Stop::Fault(code)) => { answer_unused(alloc, ask.format, ask, form, input, code) }
+        Err(Stop::NoMemory) => Err(AllocError),
+    }
+}
+
+// The response to the bytes of a request.
+fn unroll_request(
+    alloc: Global,
+    format: Format,
+    request: Request,
+    nulls: Option<bool>,
+    function: Option<InFile<'_>>,
+) -> Result<Answer, AllocError>
+    requires { request.decl.context ≡ length request.context.items }
+    ensures { IfOk result (UnrollsBytes format nulls function.entry
+        (record { bytes = request.bytes.items; context = request.context.items; held = request.decl.held })) }
+{
+    let Request {
+        bytes,
+        context,
+        decl,
+    } = request;
+    let run = match nulls {
+        Some(nulls) => Some(Running { context, nulls }),
+        None => None,
+    };
+    let said = unroll_bytes(alloc, format, &bytes, decl, &kinds(), run)?;
+    with_line(format, said, function)
+}
+
+// What is said of bytes, with what is declared and the kinds.
+fn unroll_bytes(
+    alloc: Global,
+    format: Format,
+    bytes: &[u8],
+    decl: Decl,
+    kinds: &[KindRow],
+    run: Option<Running>,
+) -> Result<SlotAnswer, AllocError>
+    requires kinds { AreKinds kinds.now }
+    requires declared { IfSome run (λ r. decl.context ≡ length r.context.items) }
+    ensures { IfOk result (λ said. UnrollsDecoded format run (decode_fault bytes.now) bytes.now decl kinds.now said.slot said.answer) }
+{
+    match decode(alloc, bytes) {
+        Ok(program) => unroll_program(alloc, format, &program, decl, kinds, run),
+        Err(DecodeFault::Bad { slot, code }) => {
+            let answer = answer_undecoded(alloc, format, bytes, slot, code)?;
+            Ok(SlotAnswer {
+                answer,
+                slot: Some(slot),
+            })
+        }
+        Err(DecodeFault::NoMemory) => Err(AllocError),
+    }
+}
+
+// What is said of a program: one without loops is laid out.
+fn unroll_program(
+    alloc: Global,
+    format: Format,
+    program: &Program,
+    decl: Decl,
+    kinds: &[KindRow],
+    run: Option<Running>,
+) -> Result<SlotAnswer, AllocError>
+    requires kinds { AreKinds kinds.now }
+    requires declared { IfSome run (λ r. decl.context ≡ length r.context.items) }
+    ensures { IfOk result (λ said. UnrollsProgram format run program.now decl kinds.now said.slot said.answer) }
+{
+    let (answer, slot) = match lay_out(alloc, program) {
+        Ok(laid) => match run {
+            Some(run) => (run_laid(alloc, format, laid, decl, kinds, run)?, None),
+            None => (answer_laid(alloc, format, &laid)?, None),
+        },
+        Err(LayoutFault::Loop { from, to }) => {
+            let edge = BackEdge { from, to };
+            let looping = Looping {
+                program,
+                decl,
+                kinds,
+                edge,
+            };
+            return unroll_loops(alloc, format, looping, run);
+        }
+        Err(LayoutFault::NoMemory) => return Err(AllocError),
+        Err(fault) => (
+            answer_layout_fault(alloc, format, program, fault)?,
+            slot_of(fault),
+        ),
+    };
+    Ok(SlotAnswer { answer, slot })
+}
+
+// The slot of which a fault of the layout speaks.
+fn slot_of(fault: LayoutFault) -> Option<u16>
+    ensures { result ≡ slot_of fault }
+{
+    match fault {
+        LayoutFault::Flow { slot, .. } => Some(slot),
+        LayoutFault::Loop { .. } | LayoutFault::Slots | LayoutFault::NoMemory => None,
+    }
+}
