@@ -1,6 +1,7 @@
 // The helpers: those of a program for eBPF, or functions of native.c if a program is compiled for the machine itself. There nothing is put
 // into its caller, so each branch of the C is counted once.
 typedef unsigned char byte;
+typedef unsigned short half;
 typedef unsigned int word;
 typedef unsigned long number;
 

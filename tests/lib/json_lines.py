@@ -26,7 +26,10 @@ FORMS = {
     'known': '  {known}\n',
     'lost': '  {lost}\n',
     'hex': '{hex}\n',
+    'hex of': '{hex}\n',
     'loop why': 'loop {loop[from]} {loop[to]}\n  {why}\n',
+    'loop turns why exits': 'loop {loop[from]} {loop[to]}\n  {why}\n{ways_out}',
+    'refused slot why visit known': 'refused {refused} {slot}\n  {why}\n  before slot {slot}, at visit {visit}:  {known}\n',
     'file line source': '; {file}:{line}: {source}\n',
     'file line column source': '  {file}:{line}:{column}: {source}\n',
     'shelf puts gets left': 'shelf {shelf} puts {puts} gets {gets} left {left}\n',
@@ -43,6 +46,7 @@ def lines_of(members):
     form = FORMS[' '.join(members)]
     owner = next((f'{members[word]} ' for word in ('job', 'run') if word in members), '')
     shown = {name: visible(value) if name in ('file', 'source') else value for name, value in members.items()}
+    shown['ways_out'] = ''.join(f'  {way}\n' for way in members.get('exits') or ['nothing leads out of it'])
     if members.get('column') == 0:
         form = form.replace(':{column}', '')
     return ''.join(f'emit {owner}{value}\n' for value in members.get('output', [])) + form.format(**shown)

@@ -4,7 +4,7 @@ each at most as long as an input may be, 1 MiB, and its programs at most 4096 sl
 import struct
 from typing import Callable, NamedTuple
 
-from assembly import slot
+from assembly import encoded, slot
 from object_files import Section, object_of, symbol_of, table_of
 
 MOST = 1_048_576
@@ -49,6 +49,32 @@ def of_branches():
     head = slot(0xbf, 6, 1) + asks + ZERO + slot(0x71, 3, 6)
     rest = SLOTS - len(head) // 8 - 1
     return head + b''.join(slot(0x15, 3, 0, (rest - 1 - at) // 2, 7) for at in range(rest)) + EXIT
+
+
+def of_nested_loops():
+    """A program of as many slots as it may have, of loops in loops: nine, each of two turns, and after them the next nine."""
+    nest = [f'mov64 r{register}, 2' for register in range(1, 10)]
+    for register in range(9, 0, -1):
+        nest += [f'sub64 r{register}, 1', f'jne64 r{register}, 0, {register - len(nest) - 2}']
+    whole = b''.join(map(encoded, nest)) * (SLOTS // 27)
+    return whole + ZERO * (SLOTS - len(whole) // 8 - 1) + EXIT
+
+
+def of_a_long_body():
+    """A program whose loop has two turns, each of nearly as many slots as it may have."""
+    return slot(0xb7, immediate=2) + slot(0xb7, 2) * 4000 + encoded('sub64 r0, 1') + encoded('jne64 r0, 0, -4002') + EXIT
+
+
+def of_a_loop_over_objects():
+    """A program with 64 objects on its stack, and then a loop of two slots."""
+    asks = b''.join(slot(0xb7, 1) + slot(0x85, immediate=1) + slot(0x7b, 10, 0, -8 * at) for at in range(1, 65))
+    return asks + slot(0xb7, 7) + encoded('add64 r7, 1') + encoded('jne64 r7, 2147483647, -2') + EXIT
+
+
+def too_long(start, end, turns, branch, registers):
+    """What `unroll` writes of a loop that is too long, from its last slot to its first one, whose last one leads out of it."""
+    return (f'loop {end} {start}\n  slot {end} goes back to slot {start}: after {turns} turns the program would have more than {SLOTS} slots\n'
+            f'  slot {end}, {branch}, leads out of it: {registers}\n')
 
 
 def of_swaps():
@@ -181,6 +207,12 @@ WORST = [
           2, each(f'{ALIKE}{{:08x}} refused I1 0\n')),
     Worst('check: comments', ['check'], b'', lambda _: b'#\n',
           0, lambda _: ''),
+    Worst('unroll: loops in loops', ['unroll'], of_nested_loops().hex().encode(), NO_PART,
+          2, lambda _: too_long(9, 10, 512, 'jne64 r9, 0, -2', 'r9 was 1, and is 0')),
+    Worst('unroll: a long body', ['unroll'], of_a_long_body().hex().encode(), NO_PART,
+          2, lambda _: too_long(1, 4002, 2, 'jne64 r0, 0, -4002', 'r0 was 1, and is 1')),
+    Worst('unroll: a loop over a full stack', ['unroll', '--held', '64'], of_a_loop_over_objects().hex().encode(), NO_PART,
+          2, lambda _: too_long(193, 194, 1952, 'jne64 r7, 2147483647, -2', 'r7 was 1, and is 1951')),
     Worst('replay: slots join, the highest first', ['replay'],
           b'', lambda at: b'grow 1 %d\n' % (65535 - at) if at < 65536 else b'#' * MOST,
           0, ledgers),

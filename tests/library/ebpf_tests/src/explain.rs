@@ -4,6 +4,7 @@ mod sentences;
 
 use crate::programs::is_text;
 use ebpf_explain::known::write_known;
+use ebpf_explain::values::write_value;
 use ebpf_insn::insn::Size;
 use ebpf_insn::register::Reg;
 use ebpf_range::range::Range;
@@ -60,6 +61,13 @@ fn each_sort_of_value_has_its_words(rt: HostRuntime) {
     let words =
         "  r0 answer of 4095  r1 18446744073709551615  r2 0..255  r3 stack-512  r4 context+4  r5 context+0..+255  r6 object of 4+8  r7 object of 4-1..+8  r8 any number  r9 1..18446744073709551615  r10 stack+0";
     is_known(&rt, rt.alloc(), "values", &state, words);
+}
+
+#[test]
+fn a_value_is_written_by_itself(rt: HostRuntime) {
+    let mut text = String::new(rt.alloc());
+    write_value(&mut text, Abs::Ctx(0, 255)).expect(&rt, "out of memory");
+    is_text(&rt, "a value", text.as_str(), "context+0..+255");
 }
 
 #[test]

@@ -2,8 +2,12 @@
 
 use crate::programs::{column, is_text};
 use ebpf_assembly::assemble::assemble;
+use ebpf_insn::register::Reg;
 use ebpf_state::kinds::kinds;
+use ebpf_state::value::Abs;
 use ebpf_unroll::fault::UnrollFault;
+use ebpf_unroll::known::known_at_end;
+use ebpf_unroll::long_loop::long_loop;
 use ebpf_unroll::unroll::unroll;
 use ebpf_verify::decl::Decl;
 use std::alloc::Global;
@@ -63,4 +67,28 @@ fn programs_are_unrolled(rt: HostRuntime) {
     for row in CASES.lines() {
         is_unrolled(&rt, rt.alloc(), row);
     }
+}
+
+#[test]
+fn a_long_loop_has_the_branches_that_lead_out_of_it(rt: HostRuntime) {
+    let text = b"mov64 r1, 2000\nturn: add64 r1, -1\nmov64 r2, 1\njne64 r1, 0, turn\nmov64 r0, 0\nexit";
+    let program = assemble(rt.alloc(), text).expect(&rt, "the text is no program");
+    let decl = Decl::new(0, 0).expect(&rt, "it can't be declared");
+    let found = long_loop(rt.alloc(), &program, decl, &kinds()).expect(&rt, "out of memory");
+    assert!(rt; found.head == 1 && found.last == 3, "another loop");
+    assert!(rt; found.turns == 1365, "another number of turns");
+    assert!(rt; found.exits.len() == 1 && found.exits[0].slot == 3, "another way out");
+    assert!(rt; matches!(found.exits[0].first.left, Abs::Num(range) if range.lo == 1999 && range.hi == 1999), "another first turn");
+    assert!(rt; matches!(found.exits[0].last.left, Abs::Num(range) if range.lo == 635 && range.hi == 635), "another last turn");
+}
+
+#[test]
+fn what_is_refused_in_a_turn_is_known(rt: HostRuntime) {
+    let text = b"mov64 r2, 0\nturn: ldxb r0, [r1+0]\nadd64 r1, 1\nadd64 r2, 1\njlt64 r2, 5, turn\nexit";
+    let program = assemble(rt.alloc(), text).expect(&rt, "the text is no program");
+    let decl = Decl::new(2, 0).expect(&rt, "it can't be declared");
+    let found = known_at_end(rt.alloc(), &program, decl, &kinds()).expect(&rt, "out of memory");
+    let known = found.expect(&rt, "nothing is refused");
+    assert!(rt; known.slot == 1, "another slot");
+    assert!(rt; matches!(known.by_slots.reg(Reg::R1), Abs::Ctx(2, 2)), "another place in the context");
 }
