@@ -3,6 +3,7 @@ use Rattle.std.proofs.Common.{◌≡◌, ℕ, zero, suc, ◌+◌, ◌<◌, ℤ, 
 use Rattle.std.proofs.Common.{sym, ap, ◌∙◌, subst, arith, inl, inr, add-one}
 use Rattle.std.specs.Prelude.{is_none, ◌&&◌, not, nat_le}
 use Rattle.std.proofs.lemmas.Bool.{or_cases, eqb-true}
+use Rattle.std.proofs.lemmas.Option.{none-some, same_Some}
 use Rattle.ebpf_insn.specs.declared.insn.Insn.{Insn}
 use Rattle.ebpf_insn.specs.declared.insn.Insn.TheVariants as insn
 use Rattle.ebpf_insn.specs.Program.{insn_at, slots_in}
@@ -15,7 +16,10 @@ use Rattle.ebpf_flow.proofs.Next.{slot_zero_is_insn}
 use Rattle.ebpf_flow.proofs.Reach.{reached_by-none, reached_by-more}
 use Rattle.ebpf_layout.specs.Paths.{LeadBy, IsReached}
 use Rattle.ebpf_layout.specs.EdgeFaults as faults
-use Rattle.ebpf_layout.specs.Layout.{moved, IsLaidOut}
+use Rattle.ebpf_layout.specs.Layout.{moved, IsLaidOut, IsLaidAs, copied_in}
+use Rattle.ebpf_layout.specs.Search.{if_there}
+use Rattle.ebpf_layout.specs.Writing.{AreOwn}
+use Rattle.ebpf_layout.proofs.CopiedSlots.{copied_inside}
 use Rattle.ebpf_layout.proofs.PathLemmas.{path_none, path_more}
 use Rattle.ebpf_layout.proofs.Searching.{there_inside}
 use Rattle.ebpf_layout.proofs.Reaching.{none_of, ordered_insn, edge_there}
@@ -51,6 +55,11 @@ jump_fine p slot (Some z) e =
     let b = none_first (is_second_half p (target_of (Some z) slot)) JumpIntoWide _ a.1 in
     rw (a.0, b.0) refl
 
+-- where a slot copies itself, an instruction begins
+itself : (o : Option Insn) (k slot : ℕ) → if_there o k ≡ Some slot → (is_none o ≡ false) × (k ≡ slot)
+itself None k slot e = absurd (none-some slot e)
+itself (Some i) k slot e = (refl, same_Some k slot e)
+
 module _ (p : List (Option Insn)) (formed : IsWellFormed p) (fine : flow_fault p ≡ None) where
   at_insn : (slot : ℕ) (i : Insn) → insn_at p slot ≡ Some i → (faults.edge_fault_at p slot ≡ None) × IsReached p slot
   at_insn slot i at =
@@ -83,6 +92,20 @@ module _ (p : List (Option Insn)) (formed : IsWellFormed p) (fine : flow_fault p
     jumps = λ slot to reached e. e;
     falls = λ slot to reached e. (to, e, inl refl);
     only = λ at i e. inl (at, (at_insn at i e).1, refl);
+  }
+
+  pub kept_as : (of : List (Option ℕ)) → length of ≡ length p → AreOwn p of → IsLaidAs p p (copied_in of)
+  unfolding kept
+  kept_as of even own = record {
+    laid_out = kept;
+    copied = λ at slot e.
+        let same = itself (insn_at p at) at slot (sym (own at (copied_inside of at slot e)) ∙ e) in
+        let i = ordered_insn p at (insn_at p at) refl same.0 in
+        (subst (IsReached p) same.1 (at_insn at i.0 i.1).1, sym same.1);
+    all = λ slot reached.
+        let here = there slot reached in
+        let i = ordered_insn p slot (insn_at p slot) refl here in
+        own slot (omega (arith, there_inside p slot here, even)) ∙ ap (λ (o : Option Insn). if_there o slot) i.1;
   }
 
 -- one slot more

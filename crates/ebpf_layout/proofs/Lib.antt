@@ -6,6 +6,7 @@ pub mod Placed
 pub mod Codes
 pub mod Written
 pub mod WritingSlots
+pub mod CopiedSlots
 pub mod Places
 pub mod Fine
 pub mod Renamed

@@ -12,11 +12,12 @@ use Rattle.ebpf_layout.specs.declared.mark.Mark.{Mark}
 use Rattle.ebpf_layout.specs.declared.mark.Mark.TheVariants.{New, Open, Done}
 use Rattle.ebpf_layout.specs.Paths.{LeadBy, IsReached}
 use Rattle.ebpf_layout.specs.EdgeFaults.{edge_fault_at}
-use Rattle.ebpf_layout.specs.Layout.{moved, IsJumpTo, FallsTo, IsKept, JumpsBetween, IsAdded, IsLaidOut}
+use Rattle.ebpf_layout.specs.Layout.{moved, IsJumpTo, FallsTo, IsKept, JumpsBetween, IsAdded, IsLaidOut, IsLaidAs, copied_in}
 use Rattle.ebpf_layout.specs.Search.{mark_at, IsOrder}
-use Rattle.ebpf_layout.specs.Writing.{StandsAt, JumpsTo, IsWritten, IsAddedAt, IsWriting}
+use Rattle.ebpf_layout.specs.Writing.{StandsAt, JumpsTo, IsWritten, IsAddedAt, IsWriting, HavePlaces, AreCopied}
 use Rattle.ebpf_layout.proofs.PathLemmas.{jump_edge, fall_edge, jump_of_edge, fall_of_edge}
-use Rattle.ebpf_layout.proofs.Searching.{found}
+use Rattle.ebpf_layout.proofs.CopiedSlots.{copied_back, copied_there}
+use Rattle.ebpf_layout.proofs.Searching.{found, there_inside}
 use Rattle.ebpf_layout.proofs.Reaching.{IsIn, last_number, last_in, behind_fine, ordered_insn}
 use Rattle.ebpf_layout.proofs.Written.{slots_in-moved}
 
@@ -290,6 +291,35 @@ is_laid_out p marks order places code count d = record {
   jumps = λ slot to reached e. laid_jump p marks order places code count slot to d (stands_if_reached p marks order places code count slot d reached) e;
   falls = λ slot to reached e. laid_fall p marks order places code count slot to d (stands_if_reached p marks order places code count slot d reached) e;
   only = λ k i e. laid_only p marks order places code count k i d e;
+}
+
+-- what was written has places
+pub have_places : (p : List (Option Insn)) (marks : List Mark) (order places : List ℕ) (code : List (Option Insn)) (count : ℕ)
+    → IsDone p marks order places code count → HavePlaces order places (length code)
+have_places p marks order places code count d = record {
+  all = d.all;
+  few = λ n slot e. omega (arith, there_inside p slot (d.ordered.ordered n slot e).1, d.ordered.formed.few);
+  inside = d.writing.written.inside;
+  rising = d.writing.written.rising;
+}
+
+-- a slot of the new program copies the one that was written there
+pub is_laid_as : (p : List (Option Insn)) (marks : List Mark) (order places : List ℕ) (code : List (Option Insn)) (count : ℕ) (of : List (Option ℕ))
+    → IsDone p marks order places code count
+    → length of ≡ length code → AreCopied order places (length order) of → IsLaidAs p (reverse code) (copied_in (reverse of))
+unfolding is_laid_out
+is_laid_as p marks order places code count of d even c = record {
+  laid_out = is_laid_out p marks order places code count d;
+  copied = λ at slot e.
+      let back = copied_back of at slot e in
+      let stands = c.only slot back.0 back.2 in
+      let place = place_is p marks order places code count slot back.0 d stands in
+      let here : place_in marks places code slot ≡ at = omega (arith, back.1) in
+      ((d.ordered.ordered stands.number slot stands.ordered).0, here);
+  all = λ slot reached.
+      let s = stands_if_reached p marks order places code count slot d reached in
+      copied_there of (place_in marks places code slot) s.at slot (s.place ∙ sym even)
+      (c.each slot s.at s.stands (slice_get_within order s.stands.number slot s.stands.ordered));
 }
 
 -- each instruction of the code jumps forward or not at all

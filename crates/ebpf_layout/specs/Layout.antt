@@ -1,5 +1,5 @@
 -- What it means that a program is another one laid out anew.
-use Rattle.std.specs.Prelude.{◌≡◌, ◌⊎◌, ◌<◌, ℕ, ℤ, false, List, Option, Some, None, is_none}
+use Rattle.std.specs.Prelude.{◌≡◌, ◌⊎◌, ◌<◌, ℕ, ℤ, false, List, Option, Some, None, is_none, slice_index_or}
 use Rattle.ebpf_insn.specs.declared.insn.Insn.{Insn}
 use Rattle.ebpf_insn.specs.declared.insn.Insn.TheVariants as insn
 use Rattle.ebpf_insn.specs.Program.{insn_at}
@@ -51,3 +51,13 @@ pub record IsLaidOut (p q : List (Option Insn)) : Type 0 where
   pub jumps : (slot to : ℕ) → IsReached p slot → (edges_at p slot).jump ≡ Some to → (edges_at q (place slot)).jump ≡ Some (place to)
   pub falls : (slot to : ℕ) → IsReached p slot → (edges_at p slot).fall ≡ Some to → FallsTo q (place slot) (place to)
   pub only : (at : ℕ) (i : Insn) → insn_at q at ≡ Some i → IsKept p place at ⊎ IsAdded p q place at
+
+-- q is p laid out anew, and `of` says which slot of p each slot of q copies: an added jump and a second half copy none
+pub record IsLaidAs (p q : List (Option Insn)) (of : ℕ → Option ℕ) : Type 0 where
+  pub laid_out : IsLaidOut p q
+  pub copied : (at slot : ℕ) → of at ≡ Some slot → IsReached p slot × (laid_out.place slot ≡ at)
+  pub all : (slot : ℕ) → IsReached p slot → of (laid_out.place slot) ≡ Some slot
+
+-- the slots that are copied, as a list has them
+abbrev pub copied_in : List (Option ℕ) → ℕ → Option ℕ
+copied_in slots at = slice_index_or slots at None

@@ -5,12 +5,13 @@ use Rattle.std.specs.List.{flat_map, AllByRecursion}
 use Rattle.ebpf_insn.specs.declared.insn.Insn.{Insn}
 use Rattle.ebpf_insn.specs.declared.insn.Insn.TheVariants as insn
 use Rattle.ebpf_insn.specs.Program.{insn_at, instructions, placed, slots_in}
+use Rattle.ebpf_insn.specs.declared.program.TheConstants.{MAX_SLOTS}
 use Rattle.ebpf_insn.specs.Encoding.{IsDefined}
 use Rattle.ebpf_flow.specs.Edges.{displacement_of, jump_of, fall_of}
 use Rattle.ebpf_layout.specs.declared.mark.Mark.{Mark}
 use Rattle.ebpf_layout.specs.declared.mark.Mark.TheVariants.{Done}
-use Rattle.ebpf_layout.specs.Layout.{moved}
-use Rattle.ebpf_layout.specs.Search.{mark_at, slots_of}
+use Rattle.ebpf_layout.specs.Layout.{moved, copied_in}
+use Rattle.ebpf_layout.specs.Search.{if_there, mark_at, slots_of}
 
 -- what was at this slot was written to this place
 pub record StandsAt (order places : List ℕ) (slot place : ℕ) : Type 0 where
@@ -126,3 +127,21 @@ pub record IsWriting (p : List (Option Insn)) (order places : List ℕ) (code : 
   pub coded : IsCode code count
   pub written : AreWritten p order places code
   pub short : length code ≤ 2 * slots_of p (take (length places) order)
+
+-- ---- which slots are copied
+
+-- the slots of an order have places in a code of some length, each further on than the one before
+pub record HavePlaces (order places : List ℕ) (len : ℕ) : Type 0 where
+  pub all : length places ≡ length order
+  pub few : (n slot : ℕ) → slice_get order n ≡ Some slot → slot < MAX_SLOTS
+  pub inside : (n place : ℕ) → slice_get places n ≡ Some place → place < len
+  pub rising : (m n a b : ℕ) → m < n → slice_get places m ≡ Some a → slice_get places n ≡ Some b → a < b
+
+-- the places of the first n of an order copy their slots, and nothing else is copied
+pub record AreCopied (order places : List ℕ) (n : ℕ) (of : List (Option ℕ)) : Type 0 where
+  pub only : (slot place : ℕ) → copied_in of place ≡ Some slot → StandsAt order places slot place
+  pub each : (slot place : ℕ) → (s : StandsAt order places slot place) → s.number < n → copied_in of place ≡ Some slot
+
+-- each slot where an instruction begins copies itself
+abbrev pub AreOwn : List (Option Insn) → List (Option ℕ) → Type 0
+AreOwn p of = (k : ℕ) → k < length of → copied_in of k ≡ if_there (insn_at p k) k

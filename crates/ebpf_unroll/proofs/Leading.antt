@@ -7,7 +7,8 @@ use Rattle.ebpf_insn.specs.declared.insn.Insn.{Insn}
 use Rattle.ebpf_insn.specs.Program.{insn_at, slots_in}
 use Rattle.ebpf_flow.specs.Edges.{falls, displacement_of, target_of, jump_of, fall_of, edges_at}
 use Rattle.ebpf_layout.proofs.PathLemmas.{fall_edge, jump_edge, fall_of_edge, jump_of_edge}
-use Rattle.ebpf_unroll.specs.Unrolling.{IsWayTo, LeadsAs, JumpsAs, FallsAs, AreCopies, IsUnrolled, copied_in}
+use Rattle.ebpf_layout.specs.Layout.{copied_in}
+use Rattle.ebpf_unroll.specs.Unrolling.{IsWayTo, LeadsAs, JumpsAs, FallsAs, AreCopies, IsUnrolled}
 
 module _ (p q : List (Option Insn)) (of : ℕ → Option ℕ) (at slot : ℕ) (i copy : Insn) (here : insn_at p slot ≡ Some i) (there : insn_at q at ≡ Some copy)
     (jumps : JumpsAs q of copy at i slot) (falls_on : FallsAs q of copy at i slot) where

@@ -8,13 +8,13 @@ use Rattle.ebpf_insn.specs.declared.insn.Insn.{Insn}
 use Rattle.ebpf_insn.specs.declared.insn.Insn.TheVariants as insn
 use Rattle.ebpf_insn.specs.Program.{insn_at, placed, slots_in}
 use Rattle.ebpf_insn.specs.Encoding.{IsDefined}
-use Rattle.ebpf_layout.specs.Layout.{moved}
+use Rattle.ebpf_layout.specs.Layout.{moved, copied_in}
 use Rattle.ebpf_layout.specs.Writing.{half_of, IsCode}
 use Rattle.ebpf_layout.proofs.Codes.{halves, code_more}
 use Rattle.ebpf_layout.proofs.Lists.{get_kept, get_last, get_pushed}
 use Rattle.ebpf_layout.proofs.Written.{length-half}
 use Rattle.ebpf_layout.proofs.Places.{code_at}
-use Rattle.ebpf_unroll.specs.Unrolling.{AreCopies, copied_in}
+use Rattle.ebpf_unroll.specs.Unrolling.{AreCopies}
 use Rattle.ebpf_unroll.specs.Written.{IsCopyOf, half_copied, IsWritten}
 
 -- the copies among what is written

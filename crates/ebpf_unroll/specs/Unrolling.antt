@@ -1,5 +1,5 @@
 -- What it means that a program is another one unrolled: it is made of copies of that one's instructions.
-use Rattle.std.specs.Prelude.{◌≡◌, ◌⊎◌, ℕ, ℤ, true, false, List, Option, Some, None, is_none, slice_index_or}
+use Rattle.std.specs.Prelude.{◌≡◌, ◌⊎◌, ℕ, ℤ, true, false, List, Option, Some, None, is_none}
 use Rattle.ebpf_insn.specs.declared.insn.Insn.{Insn}
 use Rattle.ebpf_insn.specs.declared.insn.Insn.TheVariants as insn
 use Rattle.ebpf_insn.specs.Program.{insn_at}
@@ -38,10 +38,6 @@ pub record IsUnrolled (p q : List (Option Insn)) (of : ℕ → Option ℕ) : Typ
   pub first : of 0 ≡ Some 0
   pub same : AreCopies p q of
   pub leads : (at slot : ℕ) → of at ≡ Some slot → LeadsAs p q of at slot
-
--- the slots that are copied, as a list has them
-abbrev pub copied_in : List (Option ℕ) → ℕ → Option ℕ
-copied_in slots at = slice_index_or slots at None
 
 -- ---- an edge at a time
 

@@ -2,7 +2,8 @@
 
 ghost use Rattle.std.specs.Prelude.{◌≡◌, ◌≤◌, ◌<◌, ℕ, true, length, Some, None};
 ghost use Rattle.ebpf_insn.specs.declared.program.TheConstants.{MAX_SLOTS};
-ghost use Rattle.ebpf_unroll.specs.Unrolling.{IsStub, IsCopyOrStub, IsWayTo, LeadsAs, JumpsAs, FallsAs, AreCopies, IsUnrolled, copied_in};
+ghost use Rattle.ebpf_layout.specs.Layout.{copied_in};
+ghost use Rattle.ebpf_unroll.specs.Unrolling.{IsStub, IsCopyOrStub, IsWayTo, LeadsAs, JumpsAs, FallsAs, AreCopies, IsUnrolled};
 
 use ebpf_flow::edges::{displacement_of, fall_of, falls, jump_of};
 use ebpf_insn::insn::Insn;

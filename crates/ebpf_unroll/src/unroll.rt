@@ -2,11 +2,12 @@
 
 ghost use Rattle.std.specs.Prelude.{◌≡◌, ◌≤◌, IfOk, IfErr, IfSome, length};
 ghost use Rattle.ebpf_insn.specs.declared.program.TheConstants.{MAX_SLOTS};
+ghost use Rattle.ebpf_layout.specs.Layout.{copied_in};
 ghost use Rattle.ebpf_verify.specs.Subject.{Subject};
 ghost use Rattle.ebpf_verify.specs.Verdict.{AreRows, IsAccepted};
 ghost use Rattle.ebpf_unroll.specs.Ending.{AlwaysEnds};
 ghost use Rattle.ebpf_unroll.specs.Refusal.{IsUnrollFault};
-ghost use Rattle.ebpf_unroll.specs.Unrolling.{IsUnrolled, copied_in};
+ghost use Rattle.ebpf_unroll.specs.Unrolling.{IsUnrolled};
 
 use crate::check::is_unrolled;
 use crate::copies::copies_of;

@@ -43,7 +43,7 @@ fn is_laid_out(rt: &impl Abort, alloc: Global, row: &str) {
     let (digits, expected) = column(rt, columns);
     let program = program_of(rt, alloc, digits);
     let text = match lay_out(alloc, &program) {
-        Ok(laid) => text_of(rt, alloc, laid),
+        Ok(laid) => text_of(rt, alloc, laid.program),
         Err(fault) => format!(in alloc; "{fault}").expect(rt, "out of memory"),
     };
     is_text(rt, row, text.as_str(), expected);

@@ -1,12 +1,11 @@
-use Rattle.std.proofs.Common.{◌≡◌, None, List, Option, subst, sym, arith}
+use Rattle.std.proofs.Common.{◌≡◌, None, List, Option, length, subst, sym, ◌∙◌, arith}
 use Rattle.std.specs.Prelude.{reverse}
 use Rattle.std.proofs.lemmas.List.{length-reverse}
 use Rattle.ebpf_insn.specs.declared.insn.Insn.{Insn}
 use Rattle.ebpf_flow.specs.Flow.{flow_fault}
 use Rattle.ebpf_layout.specs.Layout.{IsLaidOut}
-use Rattle.ebpf_layout.proofs.Kept.{kept}
 use Rattle.ebpf_layout.proofs.Codes.{well_formed}
-use Rattle.ebpf_layout.proofs.Places.{IsDone, is_laid_out, jumps_forward, some_code}
+use Rattle.ebpf_layout.proofs.Places.{IsDone, is_laid_out, is_laid_as, have_places, jumps_forward, some_code}
 use Rattle.ebpf_layout.proofs.Fine.{flow_is_fine}
 use Rattle.ebpf_layout.proofs.Alike.{run_alike}
 use Rattle.ebpf_layout.proofs.layout.lay_out.Goals.{In_ok-code}
@@ -25,6 +24,13 @@ done c = record {
 
 laid_out : (c : In_ok-code) → IsLaidOut c.args.program.now (reverse c.in_ok-code.field-0.code.items)
 laid_out c = is_laid_out _ _ _ _ _ _ (done c)
+
+pub copied_slots-requires : goal.copied_slots-requires
+copied_slots-requires c =
+    let w = c.in_ok-code.field-0 in
+    let len : c.len-2.result ≡ length w.code.items = c.len-2.ensures ∙ w.code.ok.0 in
+    rw (c.deref.ensures.value, c.deref-2.ensures.value, len)
+    (have_places _ _ _ _ _ _ (done (goal.at.copied_slots-requires c).In_ok-code))
 
 pub new-requires-clause-formed : goal.new-requires-clause-formed
 new-requires-clause-formed c =
@@ -55,18 +61,20 @@ returns-clause-fine c =
     rw (c.new.ensures, c.reverse.ensures.items)
     (flow_is_fine c.args.program.now _ (laid_out h) all.ordered.formed all.fine (λ k i e. jumps_forward _ _ _ _ _ _ k i all e))
 
+pub returns-clause-laid_as : goal.returns-clause-laid_as
+returns-clause-laid_as c =
+    let w = c.in_ok-code.field-0 in
+    let even : length c.in_ok-of.of.items ≡ length w.code.items = c.in_ok-of.ensures.all ∙ c.len-2.ensures ∙ w.code.ok.0 in
+    let copied = rw (c.deref.ensures.value, c.deref-2.ensures.value) at c.in_ok-of.ensures.copied in
+    rw (c.new.ensures, c.reverse.ensures.items, c.reverse-2.ensures.items)
+    (is_laid_as _ _ _ _ _ _ _ (done (goal.at.returns-clause-laid_as c).In_ok-code) even copied)
+
 pub returns-then-branch-clause-laid_out : goal.returns-then-branch-clause-laid_out
-returns-then-branch-clause-laid_out c =
-    let p = c.args.program.now in
-    subst (λ (q : List (Option Insn)). IsLaidOut p q) (sym c.in_ok-copy_of.ensures)
-    (kept p c.slots.ensures.formed (c.in_ok-is_in_order.ensures.yes c.if-branch.true))
+returns-then-branch-clause-laid_out c = c.in_ok-as_it_is.ensures.laid_as.laid_out
 
 pub returns-then-branch-clause-fine : goal.returns-then-branch-clause-fine
 returns-then-branch-clause-fine c =
-    subst (λ (q : List (Option Insn)). flow_fault q ≡ None) (sym c.in_ok-copy_of.ensures) (c.in_ok-is_in_order.ensures.yes c.if-branch.true)
+    subst (λ (q : List (Option Insn)). flow_fault q ≡ None) (sym c.in_ok-as_it_is.ensures.same) (c.in_ok-is_in_order.ensures.yes c.if-branch.true)
 
 pub returns-then-branch-clause-alike : goal.returns-then-branch-clause-alike
-returns-then-branch-clause-alike c =
-    let p = c.args.program.now in
-    run_alike p _ (subst (λ (q : List (Option Insn)). IsLaidOut p q) (sym c.in_ok-copy_of.ensures)
-    (kept p c.slots.ensures.formed (c.in_ok-is_in_order.ensures.yes c.if-branch.true)))
+returns-then-branch-clause-alike c = run_alike c.args.program.now _ c.in_ok-as_it_is.ensures.laid_as.laid_out

@@ -1,6 +1,7 @@
 use Rattle.std.proofs.Common.{◌≡◌, rules, Some}
 use Rattle.ebpf_insn.specs.Program.{insn_at}
-use Rattle.ebpf_unroll.specs.Unrolling.{JumpsAs, FallsAs, copied_in}
+use Rattle.ebpf_layout.specs.Layout.{copied_in}
+use Rattle.ebpf_unroll.specs.Unrolling.{JumpsAs, FallsAs}
 use Rattle.ebpf_unroll.proofs.Leading.{leads_from}
 use Rattle.ebpf_unroll.proofs.check.leads_as.Goals as goal
 

@@ -1,6 +1,7 @@
 use Rattle.std.proofs.Common.{rules}
+use Rattle.ebpf_layout.specs.Layout.{copied_in}
 use Rattle.ebpf_verify.specs.Verdict.{IsAccepted}
-use Rattle.ebpf_unroll.specs.Unrolling.{IsUnrolled, copied_in}
+use Rattle.ebpf_unroll.specs.Unrolling.{IsUnrolled}
 use Rattle.ebpf_unroll.specs.Written.{IsWritten}
 use Rattle.ebpf_unroll.proofs.Endings.{ends_as}
 use Rattle.ebpf_unroll.proofs.Writing.{are_copies}
