@@ -16,7 +16,7 @@ jump_text i = distance_text (displacement_of i)
 
 -- how a jump back is mended that closes a loop, or leads to a block that is only out of order
 abbrev pub backward_words : Bool → List ℕ
-backward_words true = codes " slots, which closes a loop: programs only go forward: unroll the loop"
+backward_words true = codes " slots, which closes a loop: programs only go forward: unroll the loop, as ebpf_run unroll does"
 backward_words false = codes " slots, where no path leads forward to it again: programs only go forward: have lay-out put the blocks in order"
 
 -- what is wrong with an instruction of a program that has that many slots, and how it is mended; by whether its jump closes a loop

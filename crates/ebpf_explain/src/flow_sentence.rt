@@ -71,7 +71,7 @@ fn backward_words(loops: bool) -> &'static str
     ensures { result.now ≡ backward_words loops }
 {
     if loops {
-        " slots, which closes a loop: programs only go forward: unroll the loop"
+        " slots, which closes a loop: programs only go forward: unroll the loop, as ebpf_run unroll does"
     } else {
         " slots, where no path leads forward to it again: programs only go forward: have lay-out put the blocks in order"
     }

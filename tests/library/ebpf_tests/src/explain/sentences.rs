@@ -33,11 +33,11 @@ const PROGRAMS: &str = "\
 a jump past the last slot | 05000500000000009500000000000000 |   slot 0 jumps +5 slots from the next one, but the program has 2 slots: make it lead to one of them
 a jump below slot 0 | 0500fdff000000009500000000000000 |   slot 0 jumps -3 slots from the next one, but the program has 2 slots: make it lead to one of them
 a jump into a wide load | 0500010000000000180000000100000000000000000000009500000000000000 |   slot 0 jumps +1 slots from the next one, into the second half of a wide instruction: make it lead to an instruction
-a jump to itself | 0500ffff00000000 |   slot 0 jumps back by -1 slots, which closes a loop: programs only go forward: unroll the loop
-a far jump to itself | 06000000ffffffff |   slot 0 jumps back by -1 slots, which closes a loop: programs only go forward: unroll the loop
-a branch back | b7000000070000001500feff000000009500000000000000 |   slot 1 jumps back by -2 slots, which closes a loop: programs only go forward: unroll the loop
+a jump to itself | 0500ffff00000000 |   slot 0 jumps back by -1 slots, which closes a loop: programs only go forward: unroll the loop, as ebpf_run unroll does
+a far jump to itself | 06000000ffffffff |   slot 0 jumps back by -1 slots, which closes a loop: programs only go forward: unroll the loop, as ebpf_run unroll does
+a branch back | b7000000070000001500feff000000009500000000000000 |   slot 1 jumps back by -2 slots, which closes a loop: programs only go forward: unroll the loop, as ebpf_run unroll does
 a block out of order | b7000000000000001500020000000000b70000000700000095000000000000000500fdff00000000 |   slot 4 jumps back by -3 slots, where no path leads forward to it again: programs only go forward: have lay-out put the blocks in order
-a loop with a branch in it | b7000000000000001500010000000000b7010000000000001500fdff00000000 |   slot 3 jumps back by -3 slots, which closes a loop: programs only go forward: unroll the loop
+a loop with a branch in it | b7000000000000001500010000000000b7010000000000001500fdff00000000 |   slot 3 jumps back by -3 slots, which closes a loop: programs only go forward: unroll the loop, as ebpf_run unroll does
 a move at the end | b700000007000000 |   slot 0 continues past the last slot: end the program with exit
 an exit after an exit | 95000000000000009500000000000000 |   slot 1 cannot be reached from slot 0 by going forward: remove it, or make an earlier jump lead to it";
 
