@@ -5,3 +5,5 @@ pub mod Asked
 pub mod InputFaults
 pub mod SourceLine
 pub mod ObjectText
+pub mod WhyNot
+pub mod Under

@@ -1,6 +1,6 @@
-//! An instruction and a line of C, as objects of JSON.
+//! An instruction, what is known and a line of C, in objects of JSON.
 
-ghost use Rattle.std.specs.Prelude.{◌≡◌, ◌++◌, OnOk, string_bytes};
+ghost use Rattle.std.specs.Prelude.{◌≡◌, ◌++◌, OnOk, drop, string_bytes};
 ghost use Rattle.ebpf_input.specs.Formats.{instruction_object, source_head, source_tail};
 
 use ebpf_command::json::write_quoted;
@@ -17,6 +17,16 @@ pub fn write_instruction(text: &mut String, slot: usize, insn: &Insn) -> Result<
     write_insn(text, insn)?;
     text.push_str("\"}\n")?;
     Ok(())
+}
+
+/// The words of what is known, without the two blanks before the first.
+pub fn words_of(known: &[u8]) -> &[u8]
+    ensures { result.now ≡ drop 2 known.now }
+{
+    match known {
+        [_, _, words @ ..] => words,
+        _ => &[],
+    }
 }
 
 /// Writes the file and the number of a line of C after a text, as the first members of its object.

@@ -5,7 +5,8 @@
 //! the line of C that holds there. The commands themselves are in the crates above, which also write what is here: the rows of a refusal, of an
 //! instruction and of a line of C.
 //!
-//! To be read in this order: `form`, `ask`, `program_text`, `request`, `json_text`, `source_line`, `in_format`, `object`, `input_faults`.
+//! To be read in this order: `form`, `ask`, `program_text`, `request`, `json_text`, `source_line`, `in_format`, `why_not`,
+//! `object`, `input_faults`, `under`.
 #![tactic(auto)]
 
 pub mod ask;
@@ -17,3 +18,5 @@ pub mod object;
 mod program_text;
 pub mod request;
 pub mod source_line;
+pub mod under;
+pub mod why_not;

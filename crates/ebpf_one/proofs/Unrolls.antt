@@ -11,7 +11,7 @@ use Rattle.ebpf_input.specs.declared.form.Form.TheVariants.{Raw}
 use Rattle.ebpf_input.specs.Asked.{Asked, asked_for, fault_of}
 use Rattle.ebpf_input.proofs.LongInputs.{cuts_at, fault_of_long}
 use Rattle.ebpf_input.proofs.ObjectResponses.{read_long}
-use Rattle.ebpf_one.specs.declared.under.InFile.{InFile}
+use Rattle.ebpf_input.specs.declared.under.InFile.{InFile}
 use Rattle.ebpf_one.specs.UnrollText.{UnrollsAsked, UnrollsBy, UnrollsBytes, UnrollsInput, UnrollsObject, UnrollsTo}
 
 -- of an input that is too long the beginning is answered

@@ -1,5 +1,5 @@
 -- The response of `lay-out` to its input: the hex of the program laid out anew, or why it can't be.
-use Rattle.std.specs.Prelude.{◌≡◌, ◌≢◌, ◌⊎◌, ℕ, ◌++◌, List, [], Option, Some, None, codes, decimal}
+use Rattle.std.specs.Prelude.{◌≡◌, ◌⊎◌, ℕ, ◌++◌, List, Option, Some, None, codes}
 use Rattle.hex.specs.Hex.{encode_lower}
 use Rattle.ebpf_insn.specs.declared.fault.DecodeCode.{DecodeCode}
 use Rattle.ebpf_insn.specs.declared.insn.Insn.{Insn}
@@ -7,15 +7,15 @@ use Rattle.ebpf_insn.specs.Encoding.{IsProgram}
 use Rattle.ebpf_insn.specs.Decoding.{decode_fault}
 use Rattle.ebpf_flow.specs.Flow.{flow_fault}
 use Rattle.ebpf_layout.specs.declared.fault.LayoutFault.{LayoutFault}
-use Rattle.ebpf_layout.specs.declared.fault.LayoutFault.TheVariants.{Flow, Loop, Slots, NoMemory}
 use Rattle.ebpf_layout.specs.Layout.{IsLaidOut}
 use Rattle.ebpf_layout.specs.Refusal.{IsLayoutFault}
-use Rattle.ebpf_explain.specs.Reasons.{misled_in}
+use Rattle.ebpf_forward.specs.declared.why_not.WhyNot.{WhyNot}
+use Rattle.ebpf_forward.specs.WhyNot.{SaysWhyNotLaid}
 use Rattle.ebpf_command.specs.declared.codes.RefusalCode.TheVariants.{Decode}
 use Rattle.ebpf_command.specs.declared.done.FaultCode.{FaultCode}
 use Rattle.ebpf_command.specs.declared.format.Format.{Format}
 use Rattle.ebpf_command.specs.declared.format.Format.TheVariants.{Text, Json}
-use Rattle.ebpf_command.specs.Codes.{refusal_name, flow_name}
+use Rattle.ebpf_command.specs.Codes.{refusal_name}
 use Rattle.ebpf_command.specs.Json.{fault_in}
 use Rattle.ebpf_command.specs.Response.{Response, refused_response, clean_response}
 use Rattle.ebpf_command.specs.Writing.{Responding}
@@ -23,6 +23,7 @@ use Rattle.ebpf_input.specs.declared.form.Form.{Form}
 use Rattle.ebpf_input.specs.Asked.{bytes_in, input_fault}
 use Rattle.ebpf_input.specs.InputFaults.{undecoded_sentence}
 use Rattle.ebpf_input.specs.Formats.{refused_why_in}
+use Rattle.ebpf_input.specs.WhyNot.{why_not_in}
 
 -- bytes as hex, on one line
 abbrev pub hex_in : Format → List ℕ → List ℕ
@@ -32,26 +33,6 @@ hex_in Json bytes = codes "{\"hex\":\"" ++ (encode_lower bytes ++ codes "\"}\n")
 -- the bytes of a program as hex
 abbrev pub IsHexOf : Format → List (Option Insn) → Response → Type 0
 IsHexOf format q response = (bytes : List ℕ) × IsProgram bytes q × (response ≡ clean_response (hex_in format bytes))
-
--- the edge that closes a loop
-abbrev pub loop_in : Format → ℕ → ℕ → List ℕ
-loop_in Text from to =
-    codes "loop " ++ (decimal from ++ (codes " " ++ (decimal to ++ (codes "\n  slot " ++ (decimal from ++ (codes " leads to slot " ++ (decimal to ++
-    codes ", from which a path leads back to it: unroll the loop\n")))))))
-loop_in Json from to =
-    codes "{\"loop\":{\"from\":" ++ (decimal from ++ (codes ",\"to\":" ++ (decimal to ++ (codes "},\"why\":\"slot " ++ (decimal from
-    ++ (codes " leads to slot " ++ (decimal to ++ codes ", from which a path leads back to it: unroll the loop\"}\n")))))))
-
-abbrev pub slots_in : Format → List ℕ
-slots_in Text = codes "refused I9 4096\n  with the jumps that have to be added the program has more than 4096 slots\n"
-slots_in Json = codes "{\"refused\":\"I9\",\"slot\":4096,\"why\":\"with the jumps that have to be added the program has more than 4096 slots\"}\n"
-
--- why a program can't be laid out: an edge that leads to no instruction, an edge that closes a loop, or too many slots
-abbrev pub layout_lines : Format → List (Option Insn) → LayoutFault → List ℕ
-layout_lines format p (Flow slot code) = refused_why_in format (flow_name code) slot (misled_in p slot code)
-layout_lines format p (Loop from to) = loop_in format from to
-layout_lines format p Slots = slots_in format
-layout_lines format p NoMemory = []
 
 -- the program is laid out, and its flow is fine then
 pub record IsLaidWell (format : Format) (p : List (Option Insn)) (response : Response) : Type 0 where
@@ -64,8 +45,9 @@ pub record IsLaidWell (format : Format) (p : List (Option Insn)) (response : Res
 pub record IsNotLaid (format : Format) (p : List (Option Insn)) (response : Response) : Type 0 where
   pub fault : LayoutFault
   pub is : IsLayoutFault p fault
-  pub none : fault ≢ NoMemory
-  pub told : response ≡ refused_response (layout_lines format p fault)
+  pub why : WhyNot
+  pub says : SaysWhyNotLaid p fault why
+  pub told : response ≡ refused_response (why_not_in format why)
 
 abbrev pub LaysOutProgram : Format → List (Option Insn) → Response → Type 0
 LaysOutProgram format p response = IsLaidWell format p response ⊎ IsNotLaid format p response

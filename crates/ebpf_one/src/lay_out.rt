@@ -1,30 +1,27 @@
 //! The command `lay-out`: one program with its instructions in an order in which every jump leads forward.
 
-ghost use Rattle.std.specs.Prelude.{◌≡◌, ◌++◌, IfOk, length, string_bytes};
+ghost use Rattle.std.specs.Prelude.{◌≡◌, IfOk, string_bytes};
 ghost use Rattle.ebpf_insn.specs.Decoding.{decode_fault};
-ghost use Rattle.ebpf_command.specs.Response.{refused_response};
 ghost use Rattle.ebpf_command.specs.Writing.{Performs};
 ghost use Rattle.ebpf_input.specs.ObjectText.{RespondsInput};
 ghost use Rattle.ebpf_one.specs.Alike.{WritesInputAsHex};
-ghost use Rattle.ebpf_one.specs.LayOutText.{hex_in, loop_in, slots_in, LaysOut, LaysOutDecoded, LaysOutProgram, IsHexOf, layout_lines};
+ghost use Rattle.ebpf_one.specs.LayOutText.{hex_in, LaysOut, LaysOutDecoded, LaysOutProgram, IsHexOf};
 
 use ebpf_command::answer::{Answer, answer_fault_in, write_answer};
-use ebpf_command::codes::RefusalCode;
 use ebpf_command::done::{Done, EngineFault, Stop};
 use ebpf_command::format::Format;
 use ebpf_command::input::read_input;
-use ebpf_explain::reason::write_misled;
+use ebpf_forward::why_not::why_not_laid;
 use ebpf_input::ask::Input;
 use ebpf_input::form::Form;
-use ebpf_input::in_format::answer_refused_why;
 use ebpf_input::input_faults::answer_undecoded;
 use ebpf_input::object::{answer_object_fault, taken};
 use ebpf_input::request::given_bytes;
+use ebpf_input::why_not::answer_why_not;
 use ebpf_insn::decode::decode;
 use ebpf_insn::encode::encode;
 use ebpf_insn::fault::DecodeFault;
 use ebpf_insn::program::Program;
-use ebpf_layout::fault::LayoutFault;
 use ebpf_layout::layout::lay_out as lay_out_program;
 use std::alloc::{AllocError, Global};
 use std::io::{Read, Write};
@@ -118,18 +115,16 @@ fn answer_program(alloc: Global, format: Format, program: &Program) -> Result<An
     ensures { IfOk result (LaysOutProgram format program.now) }
 {
     match lay_out_program(alloc, program) {
-        Ok(laid) => answer_laid(alloc, format, &laid),
-        Err(LayoutFault::NoMemory) => Err(AllocError),
-        Err(fault) => answer_layout_fault(alloc, format, program, fault),
+        Ok(laid) => answer_laid(alloc, format, &laid.program),
+        Err(fault) => {
+            let why = why_not_laid(alloc, program, fault)?;
+            answer_why_not(alloc, format, &why)
+        }
     }
 }
 
-/// The answer with a program that was laid out: its bytes as hex, on one line. It fails only where an allocation fails.
-pub(crate) fn answer_laid(
-    alloc: Global,
-    format: Format,
-    laid: &Program,
-) -> Result<Answer, AllocError>
+// The answer with a program that was laid out: its bytes as hex, on one line. It fails only where an allocation fails.
+fn answer_laid(alloc: Global, format: Format, laid: &Program) -> Result<Answer, AllocError>
     ensures { IfOk result (IsHexOf format laid.now) }
 {
     let bytes = encode(alloc, laid)?;
@@ -151,64 +146,5 @@ fn hex_text(alloc: Global, format: Format, bytes: &[u8]) -> Result<String, Alloc
             Ok(digits)
         }
         Format::Json => format!(in alloc; "{{\"hex\":\"{digits}\"}}\n"),
-    }
-}
-
-/// The answer to a program that can't be laid out. It fails only where an allocation fails.
-pub(crate) fn answer_layout_fault(
-    alloc: Global,
-    format: Format,
-    program: &Program,
-    fault: LayoutFault,
-) -> Result<Answer, AllocError>
-    ensures { IfOk result (λ answer. answer ≡ refused_response (layout_lines format program.now fault)) }
-{
-    match fault {
-        LayoutFault::Flow { slot, code } => {
-            let mut why = String::new(alloc);
-            write_misled(alloc, &mut why, program, slot as usize, code)?;
-            answer_refused_why(alloc, format, RefusalCode::Flow(code).name(), slot, &why)
-        }
-        LayoutFault::Loop { from, to } => refused(loop_text(alloc, format, from, to)?),
-        LayoutFault::Slots => refused(slots_text(alloc, format)?),
-        LayoutFault::NoMemory => refused(String::new(alloc)),
-    }
-}
-
-/// A text that refuses a program.
-pub(crate) fn refused(text: String) -> Result<Answer, AllocError>
-    ensures { IfOk result (λ answer. answer ≡ refused_response (string_bytes text)) }
-{
-    Ok(Answer {
-        text,
-        done: Done::Refused,
-    })
-}
-
-// The edge that closes a loop.
-fn loop_text(alloc: Global, format: Format, from: u16, to: u16) -> Result<String, AllocError>
-    ensures { IfOk result (λ text. string_bytes text ≡ loop_in format from to) }
-{
-    match format {
-        Format::Text => format!(in alloc;
-            "loop {from} {to}\n  slot {from} leads to slot {to}, from which a path leads back to it: unroll the loop\n"
-        ),
-        Format::Json => format!(in alloc;
-            "{{\"loop\":{{\"from\":{from},\"to\":{to}}},\"why\":\"slot {from} leads to slot {to}, from which a path leads back to it: unroll the loop\"}}\n"
-        ),
-    }
-}
-
-// Too many slots.
-fn slots_text(alloc: Global, format: Format) -> Result<String, AllocError>
-    ensures { IfOk result (λ text. string_bytes text ≡ slots_in format) }
-{
-    match format {
-        Format::Text => format!(in alloc;
-            "refused I9 4096\n  with the jumps that have to be added the program has more than 4096 slots\n"
-        ),
-        Format::Json => format!(in alloc;
-            "{{\"refused\":\"I9\",\"slot\":4096,\"why\":\"with the jumps that have to be added the program has more than 4096 slots\"}}\n"
-        ),
     }
 }

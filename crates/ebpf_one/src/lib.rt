@@ -2,25 +2,22 @@
 //! every jump goes forward, and `unroll` unrolls its loops.
 //!
 //! What each writes is a function of what it reads and of what is asked, errors included, and it writes nothing else: that is the contract of
-//! [`one::one`], [`list::list`], [`lay_out::lay_out`] and [`unroll::unroll`]. Of a loop that can't be unrolled `unroll` says what it knows,
-//! which the contract leaves open. The program that an input gives comes from ebpf_input, and all else rests on the contracts of the crates
-//! below. This crate adds what the four ask for and the lines of their texts.
+//! [`one::one`], [`list::list`], [`lay_out::lay_out`] and [`unroll::unroll`]. Of a loop that can't be unrolled `unroll` says what ebpf_forward
+//! knows, which the contract leaves open. The program that an input gives comes from ebpf_input, and all else rests on the contracts of the
+//! crates below. This crate adds what the four ask for and the lines of their texts.
 //!
-//! To be read in this order: `alone`, `text`, `json_text`, `answer`, `one`, `source_list`, `list`, `lay_out`; `under`, `loop_text`,
-//! `visit_text`, `running`, `unrolled`, `unroll`.
+//! To be read in this order: `alone`, `text`, `json_text`, `answer`, `one`, `source_list`, `list`, `lay_out`;
+//! `copies_text`, `running`, `unroll`.
 #![tactic(auto)]
 
 mod alone;
 mod answer;
+mod copies_text;
 mod json_text;
 pub mod lay_out;
 pub mod list;
-mod loop_text;
 pub mod one;
 mod running;
 mod source_list;
 mod text;
-mod under;
 pub mod unroll;
-mod unrolled;
-mod visit_text;

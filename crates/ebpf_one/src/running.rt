@@ -6,7 +6,7 @@ ghost use Rattle.ebpf_machine.specs.Kinds.{known_kinds};
 ghost use Rattle.ebpf_state.specs.Kinds.{AreKinds};
 ghost use Rattle.ebpf_flow.specs.Flow.{flow_fault};
 ghost use Rattle.std.specs.Prelude.{None};
-ghost use Rattle.ebpf_one.specs.RunText.{RunsJudged};
+ghost use Rattle.ebpf_one.specs.RunText.{IsDeclared, RunsForward, RunsJudged};
 
 use crate::answer::answer_verified;
 use ebpf_command::answer::Answer;
@@ -14,6 +14,7 @@ use ebpf_command::codes::RefusalCode;
 use ebpf_command::format::Format;
 use ebpf_flow::check::check;
 use ebpf_flow::fault::FlowFault;
+use ebpf_forward::forward::Forward;
 use ebpf_input::in_format::answer_refused;
 use ebpf_insn::program::Program;
 use ebpf_state::kinds::KindRow;
@@ -29,9 +30,32 @@ pub(crate) struct Running {
     pub(crate) nulls: bool,
 }
 
-/// The response to a program whose flow has no fault: what its run did, or where the verifier refuses it. It fails only where an allocation
-/// fails.
-pub(crate) fn run_laid(
+/// The response to a program of which every jump leads forward: what its run did, or where the verifier refuses it. It fails only where an
+/// allocation fails.
+pub(crate) fn run_forward(
+    alloc: Global,
+    format: Format,
+    made: Forward,
+    decl: Decl,
+    kinds: &[KindRow],
+    run: Running,
+) -> Result<Answer, AllocError>
+    requires kinds { AreKinds kinds.now }
+    requires made { IsDeclared decl kinds.now made }
+    requires declared { decl.context ≡ length run.context.items }
+    ensures { IfOk result (RunsForward format run decl kinds.now made) }
+{
+    match made {
+        Forward::LaidOut(laid) => run_laid(alloc, format, laid.program, decl, kinds, run),
+        Forward::Unrolled(unrolled) => {
+            answer_verified(alloc, format, &unrolled.verified, run.context, run.nulls)
+        }
+    }
+}
+
+// The response to a program whose flow has no fault: what its run did, or where the verifier refuses it. It fails only where an allocation
+// fails.
+fn run_laid(
     alloc: Global,
     format: Format,
     program: Program,

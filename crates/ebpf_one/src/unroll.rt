@@ -4,27 +4,28 @@ ghost use Rattle.std.specs.Prelude.{◌≡◌, None, Some, IfOk, IfSome, length}
 ghost use Rattle.ebpf_insn.specs.Decoding.{decode_fault};
 ghost use Rattle.ebpf_state.specs.Kinds.{AreKinds};
 ghost use Rattle.ebpf_command.specs.Writing.{Performs};
-ghost use Rattle.ebpf_one.specs.UnrollText.{UnrollsInput, UnrollsObject, UnrollsTo, UnrollsBytes, UnrollsDecoded, UnrollsProgram, slot_of};
+ghost use Rattle.ebpf_one.specs.RunText.{IsDeclared};
+ghost use Rattle.ebpf_one.specs.UnrollText.{DoesForward, UnrollsInput, UnrollsObject, UnrollsTo, UnrollsBytes, UnrollsDecoded};
+ghost use Rattle.ebpf_one.specs.UnrollText.{UnrollsProgram};
 
-use crate::lay_out::{answer_laid, answer_layout_fault};
-use crate::loop_text::BackEdge;
-use crate::running::{Running, run_laid};
-use crate::under::{InFile, SlotAnswer, with_line};
-use crate::unrolled::{Looping, unroll_loops};
+use crate::copies_text::answer_copies;
+use crate::running::{Running, run_forward};
 use ebpf_command::answer::{Answer, write_answer};
 use ebpf_command::done::{Done, EngineFault, Stop};
 use ebpf_command::format::Format;
 use ebpf_command::input::{MAX_INPUT, read_input};
+use ebpf_forward::forward::{Forward, lead_forward};
+use ebpf_forward::why_not::why_not;
 use ebpf_input::ask::{Ask, Input};
 use ebpf_input::form::Form;
 use ebpf_input::input_faults::{answer_undecoded, answer_unused};
 use ebpf_input::object::answer_object_fault;
 use ebpf_input::request::{Request, requested};
+use ebpf_input::under::{InFile, SlotAnswer, with_line};
+use ebpf_input::why_not::answer_why_not;
 use ebpf_insn::decode::decode;
 use ebpf_insn::fault::DecodeFault;
 use ebpf_insn::program::Program;
-use ebpf_layout::fault::LayoutFault;
-use ebpf_layout::layout::lay_out;
 use ebpf_object_file::function::wanted_function;
 use ebpf_state::kinds::{KindRow, kinds};
 use ebpf_verify::decl::Decl;
@@ -197,7 +198,7 @@ fn unroll_bytes(
     }
 }
 
-// What is said of a program: one without loops is laid out.
+// What is said of a program.
 fn unroll_program(
     alloc: Global,
     format: Format,
@@ -210,36 +211,36 @@ fn unroll_program(
     requires declared { IfSome run (λ r. decl.context ≡ length r.context.items) }
     ensures { IfOk result (λ said. UnrollsProgram format run program.now decl kinds.now said.slot said.answer) }
 {
-    let (answer, slot) = match lay_out(alloc, program) {
-        Ok(laid) => match run {
-            Some(run) => (run_laid(alloc, format, laid, decl, kinds, run)?, None),
-            None => (answer_laid(alloc, format, &laid)?, None),
-        },
-        Err(LayoutFault::Loop { from, to }) => {
-            let edge = BackEdge { from, to };
-            let looping = Looping {
-                program,
-                decl,
-                kinds,
-                edge,
-            };
-            return unroll_loops(alloc, format, looping, run);
+    match lead_forward(alloc, program, decl, kinds) {
+        Ok(made) => {
+            let answer = use_forward(alloc, format, made, decl, kinds, run)?;
+            Ok(SlotAnswer { answer, slot: None })
         }
-        Err(LayoutFault::NoMemory) => return Err(AllocError),
-        Err(fault) => (
-            answer_layout_fault(alloc, format, program, fault)?,
-            slot_of(fault),
-        ),
-    };
-    Ok(SlotAnswer { answer, slot })
+        Err(fault) => {
+            let why = why_not(alloc, program, decl, kinds, fault)?;
+            let answer = answer_why_not(alloc, format, &why)?;
+            let slot = why.slot();
+            Ok(SlotAnswer { answer, slot })
+        }
+    }
 }
 
-// The slot of which a fault of the layout speaks.
-fn slot_of(fault: LayoutFault) -> Option<u16>
-    ensures { result ≡ slot_of fault }
+// The program that was made of it, written or run.
+fn use_forward(
+    alloc: Global,
+    format: Format,
+    made: Forward,
+    decl: Decl,
+    kinds: &[KindRow],
+    run: Option<Running>,
+) -> Result<Answer, AllocError>
+    requires kinds { AreKinds kinds.now }
+    requires declared { IfSome run (λ r. decl.context ≡ length r.context.items) }
+    requires made { IsDeclared decl kinds.now made }
+    ensures { IfOk result (DoesForward format run decl kinds.now made) }
 {
-    match fault {
-        LayoutFault::Flow { slot, .. } => Some(slot),
-        LayoutFault::Loop { .. } | LayoutFault::Slots | LayoutFault::NoMemory => None,
+    match run {
+        Some(run) => run_forward(alloc, format, made, decl, kinds, run),
+        None => answer_copies(alloc, format, made.program(), made.of()),
     }
 }

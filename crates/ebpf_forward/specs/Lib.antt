@@ -1,0 +1,4 @@
+pub mod Forward
+pub mod ExitText
+pub mod WhyNot
+pub mod Lines
