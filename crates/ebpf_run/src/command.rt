@@ -96,6 +96,8 @@ pub struct ExplainOptions<'a> {
     pub ask: Ask<'a>,
     /// Whether the lines of C of an object file are listed too.
     pub lines: bool,
+    /// Whether the loops of the program are unrolled first.
+    pub unroll: bool,
 }
 
 /// The options of `graph`.
@@ -105,6 +107,8 @@ pub struct GraphOptions<'a> {
     pub ask: Ask<'a>,
     /// Whether what is known before each block is written too.
     pub states: bool,
+    /// Whether the loops of the program are unrolled first.
+    pub unroll: bool,
 }
 
 /// The options of `list`.
@@ -192,7 +196,8 @@ fn explain_command<'a>(alloc: Global) -> Result<Command<'a>, AllocError> {
         )
         .after_help(EXPLAIN_EXAMPLE)
         .arg(json_option(alloc))?
-        .arg(lines_option(alloc)?)?;
+        .arg(lines_option(alloc)?)?
+        .arg(unroll_option(alloc))?;
     with_judged_program(alloc, explain)
 }
 
@@ -200,7 +205,8 @@ fn graph_command<'a>(alloc: Global) -> Result<Command<'a>, AllocError> {
     let graph = Command::new(alloc, "graph")
         .about("Writes the basic blocks of a program as a graph for dot")
         .after_help(GRAPH_EXAMPLE)
-        .arg(states_option(alloc))?;
+        .arg(states_option(alloc))?
+        .arg(unroll_option(alloc))?;
     with_judged_program(alloc, graph)
 }
 
@@ -442,6 +448,7 @@ fn explain_options<'a>(given: &ArgMatches<'a>) -> ExplainOptions<'a> {
     ExplainOptions {
         ask: asked(given, format_of(given)),
         lines: given.get_flag("source"),
+        unroll: given.get_flag("unroll"),
     }
 }
 
@@ -450,6 +457,7 @@ fn graph_options<'a>(given: &ArgMatches<'a>) -> GraphOptions<'a> {
     GraphOptions {
         ask: asked(given, Format::Text),
         states: given.get_flag("states"),
+        unroll: given.get_flag("unroll"),
     }
 }
 

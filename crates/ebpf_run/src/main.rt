@@ -4,11 +4,14 @@
 //! what it reads and of its options, errors included, and it writes nothing else. That is the contract of [`one`] and [`list`], which
 //! read hex and write plain text; of [`ebpf_one::one::one`], [`ebpf_one::list::list`], [`ebpf_show::explain::explain`],
 //! [`ebpf_show::graph::graph`] and [`ebpf_one::lay_out::lay_out`]; of [`ebpf_assemble::assemble::assemble`],
-//! [`ebpf_script::check_script::check_script`] and [`ebpf_script::replay_script::replay_script`]. What [`ebpf_one::unroll::unroll`] and
-//! [`ebpf_one::unroll::one_unrolled`] say of a loop that they can't unroll is not promised word for word. What `run` writes is such a text for some outcome of the jobs, since threads
-//! decide which requests for objects are granted and what is found on a shelf: that is the contract of
-//! [`ebpf_script::run_script::run_script`]. `stream` answers each line of its input, and has its own contract:
-//! [`ebpf_stream::stream::stream`]. These are all that it calls.
+//! [`ebpf_script::check_script::check_script`] and [`ebpf_script::replay_script::replay_script`].
+//!
+//! Where loops are unrolled, what is said of a loop that can't be is not promised word for word: [`ebpf_one::unroll::unroll`],
+//! [`ebpf_one::unroll::one_unrolled`], [`ebpf_show::explain::explain_unrolled`] and [`ebpf_show::graph::graph_unrolled`].
+//!
+//! What `run` writes is such a text for some outcome of the jobs, since threads decide which requests for objects are granted and what is
+//! found on a shelf: that is the contract of [`ebpf_script::run_script::run_script`]. `stream` answers each line of its input, and has its
+//! own contract: [`ebpf_stream::stream::stream`]. These are all that it calls.
 #![tactic(auto)]
 
 mod command;
@@ -19,7 +22,7 @@ mod programs;
 
 use crate::command::{Request, RunOptions, Task, command, request_of};
 pub use crate::plain::{list, one};
-use crate::programs::{perform_list, perform_one};
+use crate::programs::{perform_explain, perform_graph, perform_list, perform_one};
 use clap::Error;
 use clap::error::ErrorKind;
 use ebpf_assemble::assemble::assemble;
@@ -32,8 +35,6 @@ use ebpf_report::watch::{TABLE_BYTES, Watch};
 use ebpf_script::check_script::check_script;
 use ebpf_script::replay_script::replay_script;
 use ebpf_script::run_script::run_script;
-use ebpf_show::explain::explain;
-use ebpf_show::graph::graph;
 use ebpf_stream::stream::stream;
 use std::alloc::Global;
 use std::fs::{File, OpenFile};
@@ -121,8 +122,8 @@ fn perform<R: AllocGlobal + Clock + Eprint + Input + Print + Threads + Wait + Sy
     let done = match task {
         Task::One(options) => perform_one(alloc, reader, &mut writer, options),
         Task::List(options) => perform_list(alloc, reader, &mut writer, options),
-        Task::Explain(options) => explain(alloc, reader, &mut writer, &options.ask, options.lines),
-        Task::Graph(options) => graph(alloc, reader, &mut writer, &options.ask, options.states),
+        Task::Explain(options) => perform_explain(alloc, reader, &mut writer, options),
+        Task::Graph(options) => perform_graph(alloc, reader, &mut writer, options),
         Task::LayOut(options) => lay_out(
             alloc,
             reader,

@@ -1,6 +1,7 @@
-//! The commands `one` and `list`: over hex, in plain text, by those of [`crate::plain`].
+//! The commands over one program that are done by one of two functions: `one` and `list` over hex, in plain text, by those of
+//! [`crate::plain`]; `explain` and `graph` by whether loops are unrolled first.
 
-use crate::command::{ListOptions, OneOptions};
+use crate::command::{ExplainOptions, GraphOptions, ListOptions, OneOptions};
 use crate::plain::{list, one};
 use ebpf_command::done::{Done, EngineFault};
 use ebpf_command::format::Format;
@@ -9,6 +10,8 @@ use ebpf_input::form::Form;
 use ebpf_one::list::list as list_program;
 use ebpf_one::one::one as run_program;
 use ebpf_one::unroll::one_unrolled;
+use ebpf_show::explain::{explain, explain_unrolled};
+use ebpf_show::graph::{graph, graph_unrolled};
 use std::alloc::Global;
 use std::io::{Read, Write};
 
@@ -46,5 +49,39 @@ pub fn perform_list<R: Read, W: Write>(
     match (input, format) {
         (Input::Program(Form::Hex), Format::Text) => list(alloc, reader, writer),
         _ => list_program(alloc, reader, writer, format, &input, lines),
+    }
+}
+
+/// Does `explain`.
+pub fn perform_explain<R: Read, W: Write>(
+    alloc: Global,
+    reader: &mut R,
+    writer: &mut W,
+    options: ExplainOptions<'_>,
+) -> Result<Done, EngineFault> {
+    let ExplainOptions { ask, lines, unroll } = options;
+    if unroll {
+        explain_unrolled(alloc, reader, writer, &ask, lines)
+    } else {
+        explain(alloc, reader, writer, &ask, lines)
+    }
+}
+
+/// Does `graph`.
+pub fn perform_graph<R: Read, W: Write>(
+    alloc: Global,
+    reader: &mut R,
+    writer: &mut W,
+    options: GraphOptions<'_>,
+) -> Result<Done, EngineFault> {
+    let GraphOptions {
+        ask,
+        states,
+        unroll,
+    } = options;
+    if unroll {
+        graph_unrolled(alloc, reader, writer, &ask, states)
+    } else {
+        graph(alloc, reader, writer, &ask, states)
     }
 }

@@ -15,19 +15,19 @@ use Rattle.ebpf_command.specs.declared.format.Format.{Format}
 use Rattle.ebpf_command.specs.Codes.{refusal_name}
 use Rattle.ebpf_command.specs.Response.{Response, refused_response, clean_response}
 use Rattle.ebpf_input.specs.Formats.{accepted_in, refused_why_in}
-use Rattle.ebpf_show.specs.declared.sourced.Sourced.{Sourced}
+use Rattle.ebpf_show.specs.declared.sourced.Beside.{Beside}
 use Rattle.ebpf_show.specs.Sourced.{listed_lines, with_line}
 
 -- the listing up to the refused slot and why that is refused, or the listing of all
-abbrev pub explained_by : Format → Option Sourced → Option (ℕ × VerifyCode) → Subject → List EntryState → Response
-explained_by format source (Some refusal) s entries =
-    with_line format source refusal.0 (refused_response (listed_lines format source s entries
+abbrev pub explained_by : Format → Beside → Option (ℕ × VerifyCode) → Subject → List EntryState → Response
+explained_by format beside (Some refusal) s entries =
+    with_line format beside.source refusal.0 (refused_response (listed_lines format beside s entries
     ++ refused_why_in format (refusal_name (Verify refusal.1)) refusal.0 (reason_at s entries refusal.0 refusal.1)))
-explained_by format source None s entries = clean_response (listed_lines format source s entries ++ accepted_in format (length (instructions s.program)))
+explained_by format beside None s entries = clean_response (listed_lines format beside s entries ++ accepted_in format (length (instructions s.program)))
 
 -- by the entries that the verifier looks at
-abbrev pub explained : Format → Option Sourced → Subject → Response
-explained format source s = explained_by format source (verdict s) s (entries_below s.program (looked_at (verdict s) (length s.program)))
+abbrev pub explained : Format → Beside → Subject → Response
+explained format beside s = explained_by format beside (verdict s) s (entries_below s.program (looked_at (verdict s) (length s.program)))
 
 abbrev pub misled_response : Format → List (Option Insn) → ℕ → FlowCode → Response
 misled_response format p slot code = refused_response (refused_why_in format (refusal_name (Flow code)) slot (misled_in p slot code))

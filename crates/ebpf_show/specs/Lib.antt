@@ -1,4 +1,5 @@
 pub mod KnownObjects
+pub mod Copies
 pub mod Sourced
 pub mod ExplainText
 pub mod GraphText

@@ -1,5 +1,6 @@
--- The lines of C of a function, as a command shows them.
-use Rattle.std.specs.Prelude.{ℕ, ◌++◌, List, [], length, Option, Some, None, cond, slice_index_or}
+-- What is shown beside what is known before each slot: the lines of C of a function, and the slots that are copied.
+use Rattle.std.specs.Prelude.{ℕ, ◌++◌, ◌||◌, Bool, false, List, [], length, Option, Some, None, cond, is_some, slice_index_or}
+use Rattle.ebpf_insn.specs.Program.{insn_at}
 use Rattle.ebpf_object_file.specs.declared.lines.Line.{Line}
 use Rattle.ebpf_object_file.specs.declared.lines.Lines.{Lines}
 use Rattle.ebpf_verify.specs.declared.entry.EntryState.{EntryState}
@@ -10,19 +11,33 @@ use Rattle.ebpf_command.specs.Response.{Response}
 use Rattle.ebpf_input.specs.Formats.{place_in}
 use Rattle.ebpf_input.specs.SourceLine.{heading, held_before}
 use Rattle.ebpf_show.specs.KnownObjects.{known_in, slot_in}
+use Rattle.ebpf_show.specs.declared.sourced.Beside.{Beside}
 use Rattle.ebpf_show.specs.declared.sourced.Sourced.{Sourced}
+use Rattle.ebpf_show.specs.Copies.{copy_row_if}
 
--- what is known before a slot, with the line of C before it
-abbrev pub sourced_slot : Format → Sourced → Subject → List EntryState → ℕ → List ℕ
-sourced_slot format source s entries slot =
-    heading format source.lines (held_before source.holding.now slot) (slice_index_or source.holding.now slot None)
-    ++ slot_in format s.program entries s.rows slot
+-- the line of C before a slot, where the lines are to be listed
+abbrev pub heading_of : Format → Option Sourced → ℕ → List ℕ
+heading_of format None slot = []
+heading_of format (Some source) slot =
+    cond source.listed (heading format source.lines (held_before source.holding.now slot) (slice_index_or source.holding.now slot None)) []
 
--- what is known before the slots, with the lines of C where they are to be listed
-abbrev pub listed_lines : Format → Option Sourced → Subject → List EntryState → List ℕ
-listed_lines format None s entries = known_in format s entries
-listed_lines format (Some source) s entries =
-    cond source.listed (texts_below (length entries) (sourced_slot format source s entries)) (known_in format s entries)
+-- what is known before a slot, and before that what is beside it
+abbrev pub row_of : Format → Beside → Subject → List EntryState → ℕ → List ℕ
+row_of format beside s entries slot =
+    heading_of format beside.source slot
+    ++ (copy_row_if format beside.copies slot (insn_at s.program slot) ++ slot_in format s.program entries s.rows slot)
+
+-- whether anything is
+abbrev pub is_listed : Option Sourced → Bool
+is_listed None = false
+is_listed (Some source) = source.listed
+
+abbrev pub is_beside : Beside → Bool
+is_beside beside = is_listed beside.source || is_some beside.copies
+
+abbrev pub listed_lines : Format → Beside → Subject → List EntryState → List ℕ
+listed_lines format beside s entries =
+    cond (is_beside beside) (texts_below (length entries) (row_of format beside s entries)) (known_in format s entries)
 
 -- a line with its column, indented
 abbrev pub place_row : Format → Lines → Option Line → List ℕ

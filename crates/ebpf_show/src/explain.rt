@@ -1,6 +1,6 @@
 //! The command `explain`: what is known before each instruction of one program, and the verdict that rests on it.
 
-ghost use Rattle.std.specs.Prelude.{◌≡◌, IfOk};
+ghost use Rattle.std.specs.Prelude.{◌≡◌, IfOk, false, true};
 ghost use Rattle.ebpf_verify.specs.Traced.{subject_of};
 ghost use Rattle.ebpf_command.specs.Writing.{Performs};
 ghost use Rattle.ebpf_input.specs.declared.form.Form.TheVariants.{Raw};
@@ -9,9 +9,9 @@ ghost use Rattle.ebpf_show.specs.ExplainObject.{ExplainsInput};
 ghost use Rattle.ebpf_show.specs.ExplainText.{explained_by};
 ghost use Rattle.ebpf_show.specs.Shown.{ExplainsTo};
 
-use crate::explain_object::explain_file;
+use crate::explain_object::{Detail, explain_file};
 use crate::shown::{Shown, show_input};
-use crate::sourced::{Sourced, with_line, write_listed};
+use crate::sourced::{Beside, with_line, write_listed};
 use crate::verdict::{write_accepted, write_refused};
 use ebpf_command::answer::{Answer, write_answer};
 use ebpf_command::codes::RefusalCode;
@@ -39,13 +39,40 @@ pub fn explain<R: Read, W: Write>(
     ask: &Ask<'_>,
     lines: bool,
 ) -> Result<Done, EngineFault>
-    ensures done { Performs (ExplainsInput ask.now.format ask.now.input ask.now.context.now ask.now.held lines)
+    ensures done { Performs (ExplainsInput ask.now.format ask.now.input ask.now.context.now ask.now.held (record { lines = lines; unroll = false }))
         (R.remaining reader.old) (R.remaining reader.new) (W.contents writer.old) (W.contents writer.new) writer.old writer.new result }
     // Of a file without lines, it is what is written of the function's slots.
-    ensures plain { WritesInputPlain ask.now.format (ExplainsTo ask.now.format Raw ask.now.context.now ask.now.held) ask.now.input
+    ensures plain { WritesInputPlain ask.now.format (ExplainsTo ask.now.format false Raw ask.now.context.now ask.now.held) ask.now.input
         (R.remaining reader.old) (W.contents writer.old) (W.contents writer.new) result }
 {
-    respond(alloc, reader, writer, ask, lines)
+    let detail = Detail {
+        lines,
+        unroll: false,
+    };
+    respond(alloc, reader, writer, ask, detail)
+}
+
+/// Reads a program, makes each of its jumps lead forward as `unroll` does, and writes of the program that comes of it what [`explain`] does. Before each
+/// instruction is the slot that it copies, and at which visit of that slot, or that it was added. Or it writes why there is no such program.
+///
+/// # Errors
+/// `Input` where a read failed and `NoMemory` where an allocation failed: nothing was written then. `Output` where a write
+/// failed or took nothing.
+pub fn explain_unrolled<R: Read, W: Write>(
+    alloc: Global,
+    reader: &mut R,
+    writer: &mut W,
+    ask: &Ask<'_>,
+    lines: bool,
+) -> Result<Done, EngineFault>
+    ensures { Performs (ExplainsInput ask.now.format ask.now.input ask.now.context.now ask.now.held (record { lines = lines; unroll = true }))
+        (R.remaining reader.old) (R.remaining reader.new) (W.contents writer.old) (W.contents writer.new) writer.old writer.new result }
+{
+    let detail = Detail {
+        lines,
+        unroll: true,
+    };
+    respond(alloc, reader, writer, ask, detail)
 }
 
 // Reads the input, answers it, and writes the answer.
@@ -54,13 +81,13 @@ fn respond<R: Read, W: Write>(
     reader: &mut R,
     writer: &mut W,
     ask: &Ask<'_>,
-    lines: bool,
+    detail: Detail,
 ) -> Result<Done, EngineFault>
-    ensures { Performs (ExplainsInput ask.now.format ask.now.input ask.now.context.now ask.now.held lines) (R.remaining reader.old) (R.remaining reader.new)
+    ensures { Performs (ExplainsInput ask.now.format ask.now.input ask.now.context.now ask.now.held detail) (R.remaining reader.old) (R.remaining reader.new)
         (W.contents writer.old) (W.contents writer.new) writer.old writer.new result }
 {
     let input = read_input(alloc, reader)?;
-    let answer = explain_asked(alloc, ask, &input, lines)?;
+    let answer = explain_asked(alloc, ask, &input, detail)?;
     write_answer(writer, answer)
 }
 
@@ -69,19 +96,23 @@ fn explain_asked(
     alloc: Global,
     ask: &Ask<'_>,
     input: &[u8],
-    lines: bool,
+    detail: Detail,
 ) -> Result<Answer, AllocError>
-    ensures { IfOk result (ExplainsInput ask.now.format ask.now.input ask.now.context.now ask.now.held lines input.now) }
+    ensures { IfOk result (ExplainsInput ask.now.format ask.now.input ask.now.context.now ask.now.held detail input.now) }
 {
     match ask.input {
         Input::Program(form) => {
+            let beside = Beside {
+                source: None,
+                copies: None,
+            };
             let shown = Shown::States {
                 format: ask.format,
-                source: None,
+                beside,
             };
-            show_input(alloc, shown, ask, form, input)
+            show_input(alloc, shown, detail.unroll, ask, form, input)
         }
-        Input::Object(name) => explain_file(alloc, ask, input, name, lines),
+        Input::Object(name) => explain_file(alloc, ask, input, name, detail),
     }
 }
 
@@ -90,12 +121,12 @@ pub(crate) fn answer_states(
     alloc: Global,
     format: Format,
     trace: &Trace,
-    source: Option<Sourced<'_>>,
+    beside: Beside<'_>,
 ) -> Result<Answer, AllocError>
-    ensures { IfOk result (λ answer. answer ≡ explained_by format source.entry trace.now.refusal (subject_of trace.now) trace.now.entries.items) }
+    ensures { IfOk result (λ answer. answer ≡ explained_by format beside.entry trace.now.refusal (subject_of trace.now) trace.now.entries.items) }
 {
     let mut text = String::new(alloc);
-    write_listed(alloc, format, &mut text, trace, source)?;
+    write_listed(alloc, format, &mut text, trace, beside)?;
     let Some((slot, code)) = trace.refusal else {
         let len = trace.flowed.program().len();
         write_accepted(format, &mut text, len)?;
@@ -118,5 +149,5 @@ pub(crate) fn answer_states(
         text,
         done: Done::Refused,
     };
-    with_line(format, answer, source, slot)
+    with_line(format, answer, beside.source, slot)
 }

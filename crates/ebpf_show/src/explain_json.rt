@@ -1,6 +1,6 @@
 //! What is known before each slot, as objects of JSON.
 
-ghost use Rattle.std.specs.Prelude.{◌≡◌, ◌<◌, ◌++◌, OnOk, drop, length, string_bytes};
+ghost use Rattle.std.specs.Prelude.{◌≡◌, ◌<◌, ◌++◌, OnOk, length, string_bytes};
 ghost use Rattle.ebpf_explain.specs.Known.{known_words};
 ghost use Rattle.ebpf_explain.specs.Lost.{lost_line};
 ghost use Rattle.ebpf_explain.specs.StackWords.{texts_below};
@@ -11,7 +11,7 @@ ghost use Rattle.ebpf_show.specs.KnownObjects.{entry_objects, known_object, lost
 use ebpf_command::json::{sentence_of, write_quoted};
 use ebpf_explain::known::write_known;
 use ebpf_explain::lost::write_lost;
-use ebpf_input::json_text::write_instruction;
+use ebpf_input::json_text::{words_of, write_instruction};
 use ebpf_state::kinds::KindRow;
 use ebpf_state::state::State;
 use ebpf_verify::comers::comers_to;
@@ -115,19 +115,9 @@ fn write_known_object(text: &mut String, words: &str) -> Result<(), AllocError>
     ensures { OnOk result (string_bytes text.new ≡ string_bytes text.old ++ known_object words.now) }
 {
     text.push_str("{\"known\":")?;
-    write_quoted(text, without_two(words.as_bytes()))?;
+    write_quoted(text, words_of(words.as_bytes()))?;
     text.push_str("}\n")?;
     Ok(())
-}
-
-// Bytes without the first two.
-fn without_two(bytes: &[u8]) -> &[u8]
-    ensures { result.now ≡ drop 2 bytes.now }
-{
-    match bytes {
-        [_, _, rest @ ..] => rest,
-        _ => &[],
-    }
 }
 
 // Writes the object of the line of what is lost, if there is one.

@@ -6,7 +6,7 @@ ghost use Rattle.ebpf_show.specs.Shown.{ExplainsWith};
 ghost use Rattle.ebpf_show.specs.ExplainObject.{ExplainsLined, ExplainsUnread, ExplainsFunction, ExplainsObject};
 
 use crate::shown::{Shown, show_input};
-use crate::sourced::Sourced;
+use crate::sourced::{Beside, Sourced};
 use ebpf_command::answer::Answer;
 use ebpf_command::input::MAX_INPUT;
 use ebpf_input::ask::Ask;
@@ -18,20 +18,33 @@ use ebpf_object_file::lines::{Line, Lines};
 use ebpf_object_file::source::lines_of;
 use std::alloc::{AllocError, Global};
 
+/// In what detail a program is explained.
+#[derive(Clone, Copy)]
+pub(crate) struct Detail {
+    /// Whether each line of C is written before its instructions.
+    pub lines: bool,
+    /// Whether the loops of the program are unrolled first.
+    pub unroll: bool,
+}
+
 // The response to the slots of a function, with the lines of C that are known.
 fn explain_code(
     alloc: Global,
     ask: &Ask<'_>,
     code: &[u8],
     source: Option<Sourced<'_>>,
+    unroll: bool,
 ) -> Result<Answer, AllocError>
-    ensures { IfOk result (ExplainsWith ask.now.format source.entry Raw ask.now.context.now ask.now.held code.now) }
+    ensures { IfOk result (ExplainsWith ask.now.format unroll source.entry Raw ask.now.context.now ask.now.held code.now) }
 {
     let shown = Shown::States {
         format: ask.format,
-        source,
+        beside: Beside {
+            source,
+            copies: None,
+        },
     };
-    show_input(alloc, shown, ask, Form::Raw, code)
+    show_input(alloc, shown, unroll, ask, Form::Raw, code)
 }
 
 // The response to a function with lines.
@@ -40,18 +53,18 @@ fn explain_lined(
     ask: &Ask<'_>,
     function: Function<'_>,
     lines: Lines<'_>,
-    listed: bool,
+    detail: Detail,
 ) -> Result<Answer, AllocError>
-    ensures { IfOk result (ExplainsLined ask.now.format listed lines.entry function.entry ask.now.context.now ask.now.held) }
+    ensures { IfOk result (ExplainsLined ask.now.format detail lines.entry function.entry ask.now.context.now ask.now.held) }
 {
     let mut holding: Vec<Option<Line>> = vec![in alloc; None; function.code.len() / 8]?;
     lines.at_slots(function.place.from, &mut holding);
     let source = Sourced {
         lines,
         holding: &holding,
-        listed,
+        listed: detail.lines,
     };
-    explain_code(alloc, ask, function.code, Some(source))
+    explain_code(alloc, ask, function.code, Some(source), detail.unroll)
 }
 
 // The response to a function with lines that can't be read.
@@ -60,14 +73,14 @@ fn explain_unread(
     ask: &Ask<'_>,
     function: Function<'_>,
     fault: FileFault,
-    listed: bool,
+    detail: Detail,
 ) -> Result<Answer, AllocError>
-    ensures { IfOk result (ExplainsUnread ask.now.format listed fault function.entry ask.now.context.now ask.now.held) }
+    ensures { IfOk result (ExplainsUnread ask.now.format detail fault function.entry ask.now.context.now ask.now.held) }
 {
-    if listed {
+    if detail.lines {
         answer_file_fault(alloc, ask.format, fault)
     } else {
-        explain_code(alloc, ask, function.code, None)
+        explain_code(alloc, ask, function.code, None, detail.unroll)
     }
 }
 
@@ -77,14 +90,14 @@ fn explain_function(
     ask: &Ask<'_>,
     file: &[u8],
     function: Function<'_>,
-    listed: bool,
+    detail: Detail,
 ) -> Result<Answer, AllocError>
-    ensures { IfOk result (ExplainsFunction ask.now.format listed ask.now.context.now ask.now.held file.now function.entry) }
+    ensures { IfOk result (ExplainsFunction ask.now.format detail ask.now.context.now ask.now.held file.now function.entry) }
 {
     match lines_of(file, function.place.section) {
-        Ok(Some(lines)) => explain_lined(alloc, ask, function, lines, listed),
-        Ok(None) => explain_code(alloc, ask, function.code, None),
-        Err(fault) => explain_unread(alloc, ask, function, fault, listed),
+        Ok(Some(lines)) => explain_lined(alloc, ask, function, lines, detail),
+        Ok(None) => explain_code(alloc, ask, function.code, None, detail.unroll),
+        Err(fault) => explain_unread(alloc, ask, function, fault, detail),
     }
 }
 
@@ -94,15 +107,15 @@ pub(crate) fn explain_file(
     ask: &Ask<'_>,
     file: &[u8],
     name: &str,
-    listed: bool,
+    detail: Detail,
 ) -> Result<Answer, AllocError>
-    ensures { IfOk result (ExplainsObject ask.now.format listed ask.now.context.now ask.now.held name.now file.now) }
+    ensures { IfOk result (ExplainsObject ask.now.format detail ask.now.context.now ask.now.held name.now file.now) }
 {
     if file.len() > MAX_INPUT {
-        return explain_code(alloc, ask, file, None);
+        return explain_code(alloc, ask, file, None, detail.unroll);
     }
     match wanted_function(file, name.as_bytes()) {
-        Ok(function) => explain_function(alloc, ask, file, function, listed),
+        Ok(function) => explain_function(alloc, ask, file, function, detail),
         Err(fault) => answer_object_fault(alloc, ask.format, file, fault),
     }
 }

@@ -1,6 +1,6 @@
 //! The command `graph`: the flow of one program as a graph, with the slot that is refused.
 
-ghost use Rattle.std.specs.Prelude.{◌≡◌, IfOk};
+ghost use Rattle.std.specs.Prelude.{◌≡◌, IfOk, false, true};
 ghost use Rattle.ebpf_verify.specs.Traced.{subject_of};
 ghost use Rattle.ebpf_command.specs.declared.format.Format.TheVariants.{Text};
 ghost use Rattle.ebpf_command.specs.Writing.{Performs};
@@ -34,11 +34,45 @@ pub fn graph<R: Read, W: Write>(
     ask: &Ask<'_>,
     states: bool,
 ) -> Result<Done, EngineFault>
-    ensures { Performs (RespondsInput Text ask.now.input (GraphsAs states ask.now.context.now ask.now.held)) (R.remaining reader.old) (R.remaining reader.new)
+    ensures { Performs (RespondsInput Text ask.now.input (GraphsAs false states ask.now.context.now ask.now.held)) (R.remaining reader.old) (R.remaining reader.new)
+        (W.contents writer.old) (W.contents writer.new) writer.old writer.new result }
+{
+    respond(alloc, reader, writer, ask, states, false)
+}
+
+/// Reads a program, makes each of its jumps lead forward as `unroll` does, and writes of the program that comes of it what [`graph`] does; or why there
+/// is no such program.
+///
+/// # Errors
+/// `Input` where a read failed and `NoMemory` where an allocation failed: nothing was written then. `Output` where a write
+/// failed or took nothing.
+pub fn graph_unrolled<R: Read, W: Write>(
+    alloc: Global,
+    reader: &mut R,
+    writer: &mut W,
+    ask: &Ask<'_>,
+    states: bool,
+) -> Result<Done, EngineFault>
+    ensures { Performs (RespondsInput Text ask.now.input (GraphsAs true states ask.now.context.now ask.now.held)) (R.remaining reader.old) (R.remaining reader.new)
+        (W.contents writer.old) (W.contents writer.new) writer.old writer.new result }
+{
+    respond(alloc, reader, writer, ask, states, true)
+}
+
+// Reads the input, answers it, and writes the answer.
+fn respond<R: Read, W: Write>(
+    alloc: Global,
+    reader: &mut R,
+    writer: &mut W,
+    ask: &Ask<'_>,
+    states: bool,
+    unroll: bool,
+) -> Result<Done, EngineFault>
+    ensures { Performs (RespondsInput Text ask.now.input (GraphsAs unroll states ask.now.context.now ask.now.held)) (R.remaining reader.old) (R.remaining reader.new)
         (W.contents writer.old) (W.contents writer.new) writer.old writer.new result }
 {
     let input = read_input(alloc, reader)?;
-    let answer = graph_asked(alloc, ask, &input, states)?;
+    let answer = graph_asked(alloc, ask, &input, states, unroll)?;
     write_answer(writer, answer)
 }
 
@@ -48,14 +82,15 @@ fn graph_asked(
     ask: &Ask<'_>,
     input: &[u8],
     states: bool,
+    unroll: bool,
 ) -> Result<Answer, AllocError>
-    ensures { IfOk result (RespondsInput Text ask.now.input (GraphsAs states ask.now.context.now ask.now.held) input.now) }
+    ensures { IfOk result (RespondsInput Text ask.now.input (GraphsAs unroll states ask.now.context.now ask.now.held) input.now) }
 {
     let shown = Shown::Graph { states };
     match ask.input {
-        Input::Program(form) => show_input(alloc, shown, ask, form, input),
+        Input::Program(form) => show_input(alloc, shown, unroll, ask, form, input),
         Input::Object(name) => match taken(name, input) {
-            Ok(bytes) => show_input(alloc, shown, ask, Form::Raw, bytes),
+            Ok(bytes) => show_input(alloc, shown, unroll, ask, Form::Raw, bytes),
             Err(fault) => answer_object_fault(alloc, Format::Text, input, fault),
         },
     }

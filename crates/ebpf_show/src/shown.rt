@@ -3,11 +3,12 @@
 ghost use Rattle.std.specs.Prelude.{◌≡◌, IfOk, length};
 ghost use Rattle.ebpf_state.specs.Kinds.{AreKinds};
 ghost use Rattle.ebpf_show.specs.ExplainText.{misled_response};
-ghost use Rattle.ebpf_show.specs.Shown.{ShowsTo, ShowsBytes, ShowsWith, format_of, source_of, shown_of};
+ghost use Rattle.ebpf_show.specs.Shown.{ShowsBy, ShowsTo, ShowsBytes, ShowsWith, format_of, source_of, shown_of};
 
 use crate::explain::answer_states;
 use crate::graph::answer_graph;
-use crate::sourced::{Sourced, with_line};
+use crate::made::show_forward;
+use crate::sourced::{Beside, Sourced, with_line};
 use ebpf_command::answer::Answer;
 use ebpf_command::codes::RefusalCode;
 use ebpf_command::done::Stop;
@@ -30,19 +31,14 @@ use std::alloc::{AllocError, Global};
 /// What is shown of a program.
 #[derive(Clone, Copy)]
 pub(crate) enum Shown<'a> {
-    /// What is known before each of its instructions, with the lines of C that are known, and then the verdict.
-    States {
-        format: Format,
-        source: Option<Sourced<'a>>,
-    },
+    /// What is known before each of its instructions, with what is beside it, and then the verdict.
+    States { format: Format, beside: Beside<'a> },
     /// The graph of its flow. With states, each block begins with what is known before it.
-    Graph {
-        states: bool,
-    },
+    Graph { states: bool },
 }
 
-// The format of what is shown.
-fn format_of(shown: Shown<'_>) -> Format
+/// The format of what is shown.
+pub(crate) fn format_of(shown: Shown<'_>) -> Format
     ensures { result ≡ format_of shown.entry }
 {
     match shown {
@@ -51,12 +47,12 @@ fn format_of(shown: Shown<'_>) -> Format
     }
 }
 
-// The lines of C that are known.
-fn source_of<'a>(shown: Shown<'a>) -> Option<Sourced<'a>>
+/// The lines of C that are known.
+pub(crate) fn source_of<'a>(shown: Shown<'a>) -> Option<Sourced<'a>>
     ensures { result ≡ source_of shown.entry }
 {
     match shown {
-        Shown::States { source, .. } => source,
+        Shown::States { beside, .. } => beside.source,
         Shown::Graph { .. } => None,
     }
 }
@@ -65,29 +61,54 @@ fn source_of<'a>(shown: Shown<'a>) -> Option<Sourced<'a>>
 pub(crate) fn show_input(
     alloc: Global,
     shown: Shown<'_>,
+    unroll: bool,
     ask: &Ask<'_>,
     form: Form,
     input: &[u8],
 ) -> Result<Answer, AllocError>
-    ensures { IfOk result (ShowsTo shown.entry form ask.now.context.now ask.now.held input.now) }
+    ensures { IfOk result (ShowsTo unroll shown.entry form ask.now.context.now ask.now.held input.now) }
 {
     match requested(alloc, form, input, ask.context, ask.held) {
-        Ok(request) => show_request(alloc, shown, request),
+        Ok(request) => show_request(alloc, shown, unroll, request),
         Err(Stop::Fault(code)) => answer_unused(alloc, format_of(shown), ask, form, input, code),
         Err(Stop::NoMemory) => Err(AllocError),
     }
 }
 
-// The response to the bytes of a request.
-fn show_request(alloc: Global, shown: Shown<'_>, request: Request) -> Result<Answer, AllocError>
+// The response to the bytes of a request: of their program as it is, or of one of which every jump leads forward.
+fn show_request(
+    alloc: Global,
+    shown: Shown<'_>,
+    unroll: bool,
+    request: Request,
+) -> Result<Answer, AllocError>
     requires { request.decl.context ≡ length request.context.items }
-    ensures { IfOk result (ShowsBytes shown.entry (record { bytes = request.bytes.items; context = request.context.items; held = request.decl.held })) }
+    ensures { IfOk result (ShowsBytes unroll shown.entry (record { bytes = request.bytes.items; context = request.context.items; held = request.decl.held })) }
 {
-    show_bytes(alloc, shown, &request.bytes, request.decl, &kinds())
+    show_by(alloc, shown, unroll, &request.bytes, request.decl, &kinds())
 }
 
 // The response to bytes, with what is declared and the kinds.
-fn show_bytes(
+fn show_by(
+    alloc: Global,
+    shown: Shown<'_>,
+    unroll: bool,
+    bytes: &[u8],
+    decl: Decl,
+    kinds: &[KindRow],
+) -> Result<Answer, AllocError>
+    requires { AreKinds kinds.now }
+    ensures { IfOk result (ShowsBy unroll shown.entry bytes.now decl kinds.now) }
+{
+    if unroll {
+        show_forward(alloc, shown, bytes, decl, kinds)
+    } else {
+        show_bytes(alloc, shown, bytes, decl, kinds)
+    }
+}
+
+/// What is shown of bytes as they are.
+pub(crate) fn show_bytes(
     alloc: Global,
     shown: Shown<'_>,
     bytes: &[u8],
@@ -144,7 +165,7 @@ fn show_flowed(
 {
     let trace = Trace::of(alloc, flowed, decl, kinds)?;
     match shown {
-        Shown::States { format, source } => answer_states(alloc, format, &trace, source),
+        Shown::States { format, beside } => answer_states(alloc, format, &trace, beside),
         Shown::Graph { states } => answer_graph(alloc, &trace, states),
     }
 }

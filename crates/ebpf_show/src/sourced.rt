@@ -1,11 +1,12 @@
-//! The lines of C of a function, as a command shows them.
+//! What is shown beside what is known before each slot: the lines of C of a function, and the slots that are copied.
 
 ghost use Rattle.std.specs.Prelude.{◌≡◌, ◌<◌, ◌++◌, IfOk, OnOk, length, string_bytes};
 ghost use Rattle.ebpf_explain.specs.StackWords.{texts_below};
 ghost use Rattle.ebpf_verify.specs.Traced.{subject_of};
 ghost use Rattle.ebpf_show.specs.KnownObjects.{known_in, slot_in};
-ghost use Rattle.ebpf_show.specs.Sourced.{listed_lines, place_row, sourced_slot, with_line};
+ghost use Rattle.ebpf_show.specs.Sourced.{heading_of, is_beside, listed_lines, place_row, row_of, with_line};
 
+use crate::copies::{Copies, write_copy_at};
 use crate::explain_json::{write_objects, write_slot_objects};
 use ebpf_command::answer::Answer;
 use ebpf_command::format::Format;
@@ -23,6 +24,15 @@ pub(crate) struct Sourced<'a> {
     pub holding: &'a [Option<Line>],
     /// Whether each is written before its instructions.
     pub listed: bool,
+}
+
+/// What is shown beside what is known before each slot of a program.
+#[derive(Clone, Copy)]
+pub(crate) struct Beside<'a> {
+    /// The lines of C, if they are known.
+    pub source: Option<Sourced<'a>>,
+    /// Of each slot the slot of the program that it copies, if the program was made of another one.
+    pub copies: Option<Copies<'a>>,
 }
 
 // Writes what is known before a slot.
@@ -58,44 +68,85 @@ fn write_known_in(
     }
 }
 
-// Writes what is known before each slot, with the lines of C.
-fn write_sourced(
+// Writes the line of C before a slot, where the lines are to be listed.
+fn write_heading_of(
+    format: Format,
+    text: &mut String,
+    source: Option<Sourced<'_>>,
+    slot: usize,
+) -> Result<(), AllocError>
+    ensures { OnOk result (string_bytes text.new ≡ string_bytes text.old ++ heading_of format source.entry slot) }
+{
+    match source {
+        Some(sourced) if sourced.listed => {
+            let before = held_before(sourced.holding, slot);
+            let now = held_at(sourced.holding, slot);
+            write_heading(format, text, sourced.lines, before, now)
+        }
+        _ => Ok(()),
+    }
+}
+
+// Writes what is known before a slot, and before that what is beside it.
+fn write_row(
     alloc: Global,
     format: Format,
     text: &mut String,
     trace: &Trace,
-    source: Sourced<'_>,
+    beside: Beside<'_>,
+    slot: usize,
+) -> Result<(), AllocError>
+    requires inside { slot < length trace.now.entries.items }
+    ensures { OnOk result (string_bytes text.new ≡ string_bytes text.old
+        ++ row_of format beside.entry (subject_of trace.now) trace.now.entries.items slot) }
+{
+    write_heading_of(format, text, beside.source, slot)?;
+    write_copy_at(format, text, trace.flowed.program(), beside.copies, slot)?;
+    write_slot_in(alloc, format, text, trace, slot)
+}
+
+// Writes what is known before each slot, with what is beside it.
+fn write_rows(
+    alloc: Global,
+    format: Format,
+    text: &mut String,
+    trace: &Trace,
+    beside: Beside<'_>,
 ) -> Result<(), AllocError>
     ensures { OnOk result (string_bytes text.new ≡ string_bytes text.old
-        ++ texts_below (length trace.now.entries.items) (sourced_slot format source.entry (subject_of trace.now) trace.now.entries.items)) }
+        ++ texts_below (length trace.now.entries.items) (row_of format beside.entry (subject_of trace.now) trace.now.entries.items)) }
 {
     for slot in 0..trace.entries.len() {
-        let before = held_before(source.holding, slot);
-        write_heading(
-            format,
-            text,
-            source.lines,
-            before,
-            held_at(source.holding, slot),
-        )?;
-        write_slot_in(alloc, format, text, trace, slot)?;
+        write_row(alloc, format, text, trace, beside, slot)?;
     }
     Ok(())
 }
 
-/// Writes what is known before each slot, with the lines of C where they are to be listed. It fails only where an allocation fails.
+// Whether anything is beside what is known.
+fn is_beside(beside: Beside<'_>) -> bool
+    ensures { result ≡ is_beside beside.entry }
+{
+    match beside.source {
+        Some(sourced) => sourced.listed || beside.copies.is_some(),
+        None => beside.copies.is_some(),
+    }
+}
+
+/// Writes what is known before each slot, with the lines of C where they are to be listed, and the slots that are copied where some are. It fails
+/// only where an allocation fails.
 pub(crate) fn write_listed(
     alloc: Global,
     format: Format,
     text: &mut String,
     trace: &Trace,
-    source: Option<Sourced<'_>>,
+    beside: Beside<'_>,
 ) -> Result<(), AllocError>
-    ensures { OnOk result (string_bytes text.new ≡ string_bytes text.old ++ listed_lines format source.entry (subject_of trace.now) trace.now.entries.items) }
+    ensures { OnOk result (string_bytes text.new ≡ string_bytes text.old ++ listed_lines format beside.entry (subject_of trace.now) trace.now.entries.items) }
 {
-    match source {
-        Some(sourced) if sourced.listed => write_sourced(alloc, format, text, trace, sourced),
-        _ => write_known_in(alloc, format, text, trace),
+    if is_beside(beside) {
+        write_rows(alloc, format, text, trace, beside)
+    } else {
+        write_known_in(alloc, format, text, trace)
     }
 }
 

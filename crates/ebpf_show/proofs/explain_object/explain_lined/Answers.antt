@@ -6,7 +6,7 @@ use Rattle.ebpf_show.proofs.explain_object.explain_lined.Goals as goal
 pub returns : goal.returns
 returns c = IfOk-weaker c.explain_code.result _ _
     (λ response h. record {
-      source = record { lines = c.args.lines; holding = c.deref.result; listed = c.args.listed };
+      source = record { lines = c.args.lines; holding = c.deref.result; listed = c.args.detail.lines };
       asked = refl;
       same = refl;
       whole = search rules;

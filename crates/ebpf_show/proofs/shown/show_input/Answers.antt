@@ -10,4 +10,4 @@ returns-in-Ok c =
     let e = c.in-Ok.ensures in
     let same : asked ≡ asked_for c.args.form c.args.input.now c.args.ask.now.context.now c.args.ask.now.held = rw (e.bytes, e.context, e.declared.1) refl in
     IfOk-weaker c.show_request.result _ _
-    (λ response h. Shows-asked c.args.shown c.args.form c.args.input.now c.args.ask.now.context.now c.args.ask.now.held asked response e.fine same h) c.show_request.ensures
+    (λ response h. Shows-asked c.args.unroll c.args.shown c.args.form c.args.input.now c.args.ask.now.context.now c.args.ask.now.held asked response e.fine same h) c.show_request.ensures

@@ -1,9 +1,0 @@
-use Rattle.std.proofs.Common.{◌≡◌, ◌++◌, string_bytes}
-use Rattle.ebpf_explain.specs.StackWords.{texts_below}
-use Rattle.ebpf_verify.specs.Traced.{subject_of}
-use Rattle.ebpf_show.specs.Sourced.{sourced_slot}
-use Rattle.ebpf_show.proofs.sourced.write_sourced.Given as goal
-
-abbrev pub invariant-loop-slot : goal.invariant-loop-slot
-invariant-loop-slot l =
-    string_bytes l.text ≡ string_bytes l.fn.text ++ texts_below l.slot (sourced_slot l.format l.source (subject_of l.trace) l.trace.entries.items)
