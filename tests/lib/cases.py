@@ -44,6 +44,11 @@ class Case(NamedTuple):
         return ADVICE if self.calls[0][0] == b'run' and self.text == b'fault S1 line 0\n' else ''
 
 
+def is_as_given(words):
+    """Whether a call takes the program as it is given: with --unroll it takes another one, which is made of that."""
+    return b'--unroll' not in words
+
+
 def plain(part):
     """The bytes of a part without braces."""
     if not re.fullmatch(r'(?:[^\\{}]|\\[ntr\\]|\\x[0-9a-fA-F]{2})*', part):

@@ -25,6 +25,8 @@ FORMS = {
     'slot instruction': '{slot}: {instruction}\n',
     'known': '  {known}\n',
     'lost': '  {lost}\n',
+    'of visit': '  slot {of}, visit {visit}\n',
+    'of': '  added\n',
     'hex': '{hex}\n',
     'hex of': '{hex}\n',
     'loop why': 'loop {loop[from]} {loop[to]}\n  {why}\n',

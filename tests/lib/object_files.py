@@ -140,6 +140,12 @@ def symbol_of(name, start, size, section=1):
     return struct.pack('<IBBHQQ', name, 0x12, 0, section, start, size)
 
 
+def object_with(name, data):
+    """An object file with one function, which has these bytes."""
+    names = b'\0' + name.encode() + b'\0'
+    return object_of([Section(b'.text', 1, data), Section(b'.strtab', 3, names), Section(b'.symtab', 2, symbol_of(1, 0, len(data)), 2)])
+
+
 def table_of(data):
     """The bytes of `.BTF` with these strings, or of `.BTF.ext` with these lines: both headers have their place and length at 16 and 20."""
     return struct.pack('<HBBIIIII', 60319, 1, 0, 24, 0, 0, 0, len(data)) + data
