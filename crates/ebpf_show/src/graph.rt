@@ -34,8 +34,8 @@ pub fn graph<R: Read, W: Write>(
     ask: &Ask<'_>,
     states: bool,
 ) -> Result<Done, EngineFault>
-    ensures { Performs (RespondsInput Text ask.now.input (GraphsAs false states ask.now.context.now ask.now.held)) (R.remaining reader.old) (R.remaining reader.new)
-        (W.contents writer.old) (W.contents writer.new) writer.old writer.new result }
+    ensures { Performs (RespondsInput Text ask.now.input (GraphsAs false states ask.now.context.now ask.now.held))
+        (R.remaining reader.old) (R.remaining reader.new) (W.contents writer.old) (W.contents writer.new) writer.old writer.new result }
 {
     respond(alloc, reader, writer, ask, states, false)
 }
@@ -53,8 +53,8 @@ pub fn graph_unrolled<R: Read, W: Write>(
     ask: &Ask<'_>,
     states: bool,
 ) -> Result<Done, EngineFault>
-    ensures { Performs (RespondsInput Text ask.now.input (GraphsAs true states ask.now.context.now ask.now.held)) (R.remaining reader.old) (R.remaining reader.new)
-        (W.contents writer.old) (W.contents writer.new) writer.old writer.new result }
+    ensures { Performs (RespondsInput Text ask.now.input (GraphsAs true states ask.now.context.now ask.now.held))
+        (R.remaining reader.old) (R.remaining reader.new) (W.contents writer.old) (W.contents writer.new) writer.old writer.new result }
 {
     respond(alloc, reader, writer, ask, states, true)
 }
@@ -68,8 +68,8 @@ fn respond<R: Read, W: Write>(
     states: bool,
     unroll: bool,
 ) -> Result<Done, EngineFault>
-    ensures { Performs (RespondsInput Text ask.now.input (GraphsAs unroll states ask.now.context.now ask.now.held)) (R.remaining reader.old) (R.remaining reader.new)
-        (W.contents writer.old) (W.contents writer.new) writer.old writer.new result }
+    ensures { Performs (RespondsInput Text ask.now.input (GraphsAs unroll states ask.now.context.now ask.now.held))
+        (R.remaining reader.old) (R.remaining reader.new) (W.contents writer.old) (W.contents writer.new) writer.old writer.new result }
 {
     let input = read_input(alloc, reader)?;
     let answer = graph_asked(alloc, ask, &input, states, unroll)?;

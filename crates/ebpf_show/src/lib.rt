@@ -3,8 +3,10 @@
 //!
 //! What each writes is a function of what it reads and of what is asked, errors included, and it writes nothing else: that is the contract of
 //! [`explain::explain`] and [`graph::graph`]. The program that an input gives comes from ebpf_input. Both go the same way as far as the verdict
-//! (`shown`), and differ in what they write of it. [`explain::explain_unrolled`] and [`graph::graph_unrolled`] show the program that is made of it so that every jump leads
-//! forward (`made`), as it would be shown by itself, with the slots that it copies (`copies`).
+//! (`shown`), and differ in what they write of it.
+//!
+//! [`explain::explain_unrolled`] and [`graph::graph_unrolled`] show the program that is made of it so that every jump leads forward (`made`), as it
+//! would be shown by itself; `explain` says which slots that one copies (`copies`).
 //!
 //! To be read in this order: `explain_json`, `copies`, `sourced`, `verdict`, `shown`, `made`, `explain_object`, `explain`, `graph`.
 #![tactic(auto)]
