@@ -1,8 +1,8 @@
 //! From a program whose jumps may lead back to one of which every jump leads forward: laid out anew, or with its loops unrolled; or why
 //! there is none, in words.
 //!
-//! [`forward::lead_forward`] tries both, by ebpf_layout and ebpf_unroll. [`why_not::why_not`] says why neither could be had, as lines that a
-//! command writes in its format and the library for C as they are ([`lines::write_lines`]).
+//! [`forward::lead_forward`] tries both, by ebpf_layout and ebpf_unroll. [`why_not::why_not`] says why neither could be had, in the words that the
+//! commands write, as lines ([`lines::write_lines`]) or as JSON.
 //!
 //! To be read in this order: `fault`, `forward`, `exit_text`, `refused`, `loops`, `why_not`, `lines`.
 #![tactic(auto)]
