@@ -1,6 +1,6 @@
 """Runs the tests, one after another, and stops at the first that fails.
 
-    ./test              everything, from the proofs on: about an hour on four processors
+    ./test              everything, from the proofs on: one to two hours on four processors
     ./test program      the tests of the built program: some three minutes
     ./test NAME..       these tests
     ./test --list       what each test does
