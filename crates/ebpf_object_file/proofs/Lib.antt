@@ -4,9 +4,16 @@ pub mod Texts
 pub mod Places
 pub mod Names
 pub mod Chosen
+pub mod Meanings
 pub mod Parts
 pub mod Best
 pub mod Slots
 pub mod Tables
 pub mod Listing
 pub mod Unlined
+pub mod Fresh
+pub mod Below
+pub mod Marked
+pub mod Uses
+pub mod Loads
+pub mod Layings

@@ -8,14 +8,16 @@ use Rattle.ebpf_object_file.specs.declared.symbol.Symbol.{Symbol}
 use Rattle.ebpf_object_file.specs.declared.relocation.Relocation.{Relocation}
 use Rattle.ebpf_object_file.specs.declared.outside.Place.{Place}
 use Rattle.ebpf_object_file.specs.declared.function.Function.{Function}
-use Rattle.ebpf_object_file.specs.declared.section.Wanted.TheVariants.{RelocationsFor, AddendsFor}
+use Rattle.ebpf_object_file.specs.declared.section.Wanted.TheVariants.{RelocationsFor}
 use Rattle.ebpf_object_file.specs.Header.{header_of}
-use Rattle.ebpf_object_file.specs.First.{NoneBelow, IsFirst, IsOnly, Finds}
+use Rattle.ebpf_object_file.specs.First.{NoneBelow, IsFirst, Finds}
 use Rattle.ebpf_object_file.specs.Section.{section_of, sections_in, wanted_in, has_no_bytes, bytes_of}
 use Rattle.ebpf_object_file.specs.Symbol.{symbol_of, is_function, is_function_named}
 use Rattle.ebpf_object_file.specs.Relocation.{relocation_of, reaches}
 use Rattle.ebpf_object_file.specs.File.{named_in}
-use Rattle.ebpf_object_file.specs.Outside.{IsReached, IsReachedFirst}
+use Rattle.ebpf_object_file.specs.Outside.{IsReached, AreRelocations, IsReachedFirst}
+use Rattle.ebpf_object_file.specs.declared.data_function.DataFunction.{DataFunction}
+use Rattle.ebpf_object_file.specs.DataFunction.{IsDataFunction}
 use Rattle.ebpf_object_file.specs.Function.{code_of, IsPlace, IsWanted}
 
 true_false : (b : Bool) → b ≡ true → b ≡ false → ⊥
@@ -50,31 +52,33 @@ reaches_none file p r h none =
     true_false (reaches p.from p.size (relocation_of (bytes_of file h.table) h.entry))
     (subst (λ (x : Relocation). reaches p.from p.size x ≡ true) h.is h.reaches) (none h.entry h.there)
 
--- the only section that has them has none that reaches it
-pub none_reaching : (file : List ℕ) (p : Place) (i : ℕ) (bytes : List ℕ) → IsOnly (wanted_in file (RelocationsFor p.section)) (sections_in file) i
-    → bytes ≡ bytes_of file i → NoneBelow (λ k. reaches p.from p.size (relocation_of bytes k)) (length bytes / 16)
-    → (r : Relocation) → IsReached file p r → ⊥
-none_reaching file p i bytes only same none r h =
-    elim (eqb_tells h.table i) [
-      | inl e ↦ reaches_none file p r h (subst (λ (x : List ℕ). NoneBelow (λ k. reaches p.from p.size (relocation_of x k)) (length x / 16))
-          (same ∙ ap (λ (t : ℕ). bytes_of file t) (sym e.1)) none)
-      | inr e ↦ true_false (wanted_in file (RelocationsFor p.section) h.table) h.wanted (only.other h.table h.inside e.1)
-    ]
+-- none of the relocations for its section reaches it
+pub none_reaching : (file : List ℕ) (p : Place) (table : List ℕ) → AreRelocations file p table
+    → NoneBelow (λ k. reaches p.from p.size (relocation_of table k)) (length table / 16) → (r : Relocation) → IsReached file p r → ⊥
+none_reaching file p table are none r h = elim are.are [
+  | inl empty_table ↦ none_wanted file p empty_table.0 r h
+  | inr one ↦ elim (eqb_tells h.table one.0) [
+    | inl e ↦ reaches_none file p r h (subst (λ (x : List ℕ). NoneBelow (λ k. reaches p.from p.size (relocation_of x k)) (length x / 16))
+        (one.2 ∙ ap (λ (t : ℕ). bytes_of file t) (sym e.1)) none)
+    | inr e ↦ true_false (wanted_in file (RelocationsFor p.section) h.table) h.wanted (one.1.other h.table h.inside e.1)
+  ]
+]
 
 -- the first that reaches it
-pub is_reached_first : (file : List ℕ) (p : Place) (i k : ℕ) (bytes : List ℕ) (r : Relocation)
-    → NoneBelow (wanted_in file (AddendsFor p.section)) (sections_in file)
-    → IsOnly (wanted_in file (RelocationsFor p.section)) (sections_in file) i
-    → bytes ≡ bytes_of file i → IsFirst (λ k. reaches p.from p.size (relocation_of bytes k)) (length bytes / 16) k
-    → r ≡ relocation_of bytes k → IsReachedFirst file p r
-is_reached_first file p i k bytes r none only same first is = record {
-  no_addends = none;
-  table = i;
-  only = only;
-  entry = k;
-  first = subst (λ (x : List ℕ). IsFirst (λ (j : ℕ). reaches p.from p.size (relocation_of x j)) (length x / 16) k) same first;
-  is = is ∙ ap (λ (x : List ℕ). relocation_of x k) same;
-}
+pub is_reached_first : (file : List ℕ) (p : Place) (k : ℕ) (table : List ℕ) (r : Relocation) → AreRelocations file p table
+    → IsFirst (λ k. reaches p.from p.size (relocation_of table k)) (length table / 16) k → r ≡ relocation_of table k → IsReachedFirst file p r
+is_reached_first file p k table r are first is = elim are.are [
+  | inl empty_table ↦ let empty : length table ≡ 0 = ap length empty_table.1 in
+      let inside : k < length table / 16 = first.inside in absurd (omega (arith, empty, inside))
+  | inr one ↦ record {
+    no_addends = are.no_addends;
+    table = one.0;
+    only = one.1;
+    entry = k;
+    first = subst (λ (x : List ℕ). IsFirst (λ (j : ℕ). reaches p.from p.size (relocation_of x j)) (length x / 16) k) one.2 first;
+    is = is ∙ ap (λ (x : List ℕ). relocation_of x k) one.2;
+  }
+]
 
 -- the section of a place is in the file
 pub place_section : (file symbols : List ℕ) (number : ℕ) (p : Place) (h : Header) → h ≡ header_of file
@@ -112,3 +116,8 @@ place_within file symbols number p code is same =
 pub wanted_within : (file name : List ℕ) (f : Function) → IsWanted file name f → f.place.from ≤ length file
 wanted_within file [] f is = begins_within _ _ _ (place_within file is.0.symbols is.0.number f.place f.code.now is.0.at.place is.0.at.code)
 wanted_within file (c ∷ name) f is = begins_within _ _ _ (place_within file is.0.symbols is.0.number f.place f.code.now is.0.at.place is.0.at.code)
+
+-- the same of a function with its data
+pub data_within : (file name : List ℕ) (d : DataFunction) → IsDataFunction file name d → d.function.place.from ≤ length file
+data_within file name d is = begins_within _ _ _
+    (place_within file is.meant.functions.symbols.now is.meant.number d.function.place d.function.code.now is.at.place is.at.code)

@@ -17,11 +17,11 @@ at_is from slot l e = let parts = both _ _ e in (le _ _ parts.0, eq _ _ parts.1)
 at_here : (from slot : ℕ) (l : Line) → from ≤ l.offset → (l.offset - from + 7) / 8 ≡ slot → is_at from slot l ≡ true
 at_here from slot l above here = and_from _ _ (le_test _ _ above) (eq_test _ _ here)
 
-isnt : (b : Bool) → (b ≡ true → ⊥) → b ≡ false
+pub isnt : (b : Bool) → (b ≡ true → ⊥) → b ≡ false
 isnt true h = absurd (h refl)
 isnt false h = refl
 
-is : (b : Bool) → b ≡ false → b ≡ true → ⊥
+pub is : (b : Bool) → b ≡ false → b ≡ true → ⊥
 is true f t = absurd (cc)
 is false f t = absurd (cc)
 

@@ -12,6 +12,12 @@ pub mod Lines
 pub mod Source
 pub mod Outside
 pub mod Function
+pub mod Meant
+pub mod Data
+pub mod DataFunction
+pub mod Reading
+pub mod DataParts
+pub mod Laying
 pub mod Sentences
 pub mod Shown
 pub mod HoldingLine

@@ -1,5 +1,5 @@
 -- What a function's bytes refer to outside of them: by a relocation, or by a call of a place.
-use Rattle.std.specs.Prelude.{ℕ, Bool, ◌≡◌, ◌<◌, ◌+◌, ◌-◌, ◌*◌, ◌/◌, ◌%◌, true, List, [], ◌∷◌, length, Option, Some, None, ◌==◌, ◌||◌, cond}
+use Rattle.std.specs.Prelude.{ℕ, Bool, ◌≡◌, ◌⊎◌, ◌<◌, ◌+◌, ◌-◌, ◌*◌, ◌/◌, ◌%◌, true, List, [], ◌∷◌, length, Option, Some, None, unwrap_or, ◌==◌, ◌||◌, cond}
 use Rattle.ebpf_object_file.specs.declared.symbol.Symbol.{Symbol}
 use Rattle.ebpf_object_file.specs.declared.outside.Place.{Place}
 use Rattle.ebpf_object_file.specs.declared.outside.Outside.{Outside}
@@ -57,6 +57,12 @@ pub record HasNone (file : List ℕ) (p : Place) : Type 0 where
   pub none : (r : Relocation) → IsReached file p r → ⊥
   pub no_addends : NoneBelow (wanted_in file (AddendsFor p.section)) (sections_in file)
 
+-- the relocations for the place's section, none where no section has them; and no section has those with addends
+pub record AreRelocations (file : List ℕ) (p : Place) (table : List ℕ) : Type 0 where
+  pub no_addends : NoneBelow (wanted_in file (AddendsFor p.section)) (sections_in file)
+  pub are : (NoneBelow (wanted_in file (RelocationsFor p.section)) (sections_in file) × (table ≡ []))
+      ⊎ ((i : ℕ) × IsOnly (wanted_in file (RelocationsFor p.section)) (sections_in file) i × (table ≡ bytes_of file i))
+
 -- it is the first that does, of the only section of relocations for the place's section
 pub record IsReachedFirst (file : List ℕ) (p : Place) (r : Relocation) : Type 0 where
   pub no_addends : NoneBelow (wanted_in file (AddendsFor p.section)) (sections_in file)
@@ -73,17 +79,21 @@ IsRelocationFault file p fault.RelocationsTwice =
     NoneBelow (wanted_in file (AddendsFor p.section)) (sections_in file) × AreTwo (wanted_in file (RelocationsFor p.section)) (sections_in file)
 IsRelocationFault file p _ = ⊥
 
--- What the first relocation refers to: its place, its slot, from the function's first, and its symbol.
+-- What a relocation refers to: its place, its slot, from the function's first, and its symbol. What the symbol is can be known already.
+pub record IsReferred (file symbols strings : List ℕ) (p : Place) (r : Relocation) (known : Option Target) (o : Outside) : Type 0 where
+  pub place : o.place ≡ p
+  pub at : o.at ≡ r.offset
+  pub slot : o.slot ≡ (r.offset - p.from) / 8
+  pub meant : Option ℕ
+  pub is_meant : IsDataOf file symbols (symbol_or_null symbols r.symbol) (addend_at (bytes_of file p.section) r.offset) meant
+  pub target : o.target ≡ unwrap_or known (target_of file symbols (symbol_or_null symbols r.symbol) meant)
+  pub name : o.name.bytes.now ≡ name_of file symbols strings (symbol_or_null symbols r.symbol) meant
+
+-- what the first relocation refers to
 pub record IsRelocated (file symbols strings : List ℕ) (p : Place) (o : Outside) : Type 0 where
   pub relocation : Relocation
   pub first : IsReachedFirst file p relocation
-  pub place : o.place ≡ p
-  pub at : o.at ≡ relocation.offset
-  pub slot : o.slot ≡ (relocation.offset - p.from) / 8
-  pub meant : Option ℕ
-  pub is_meant : IsDataOf file symbols (symbol_or_null symbols relocation.symbol) (addend_at (bytes_of file p.section) relocation.offset) meant
-  pub target : o.target ≡ target_of file symbols (symbol_or_null symbols relocation.symbol) meant
-  pub name : o.name.bytes.now ≡ name_of file symbols strings (symbol_or_null symbols relocation.symbol) meant
+  pub is : IsReferred file symbols strings p relocation None o
 
 -- the name of the symbol of a number, where there is one
 abbrev pub name_found : List ℕ → List ℕ → Option ℕ → List ℕ

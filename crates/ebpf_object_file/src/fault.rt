@@ -27,6 +27,8 @@ pub enum FileFault {
     /// The relocations for the function's section have addends (`SHT_RELA`).
     Addends,
     RelocationsTwice,
+    /// Two relocations are for one slot of a function that is taken with its data.
+    SlotTwice,
     /// A caller asks for the lines of a section that isn't in the file.
     NoSection,
     LongSectionName,
@@ -65,6 +67,7 @@ impl FileFault {
             FileFault::RelocationsTwice => {
                 "the function's section has more than one section of relocations"
             }
+            FileFault::SlotTwice => "two relocations are for one slot",
             FileFault::NoSection => "the file has no section of that number",
             FileFault::LongSectionName => {
                 "the name of the function's section has no end, or more than 255 bytes"

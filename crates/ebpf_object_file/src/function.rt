@@ -14,7 +14,7 @@ use crate::field::is_inside;
 use crate::functions::{Functions, MOST_NAME, functions_of};
 use crate::header::Header;
 use crate::object_fault::ObjectFault;
-use crate::outside::{Place, calling, relocated, relocation_in};
+use crate::outside::{Place, calling, referred, relocation_in};
 use crate::section::bytes_of;
 use crate::symbol::{Symbol, find_function, symbol_of};
 
@@ -52,7 +52,7 @@ fn code_of(file: &[u8], header: Header, place: Place) -> &[u8]
 }
 
 // The place and the bytes of the function that is the symbol of a number.
-fn read_function<'a>(
+pub(crate) fn read_function<'a>(
     file: &'a [u8],
     header: Header,
     symbols: &[u8],
@@ -102,7 +102,7 @@ fn function_at<'a>(functions: Functions<'a>, number: usize) -> Result<Function<'
         Err(fault) => return Err(ObjectFault::File(fault)),
         Ok(None) => {}
         Ok(Some(relocation)) => {
-            let outside = relocated(functions, function.place, relocation);
+            let outside = referred(functions, function.place, relocation, None);
             return Err(ObjectFault::Outside(outside));
         }
     }

@@ -53,6 +53,17 @@ pub(crate) fn read_header(file: &[u8]) -> Result<Header, FileFault>
     Ok(header)
 }
 
+// The header of a file that has no fault of the header.
+pub(crate) fn header_of(file: &[u8]) -> Header
+    requires { header_fault file.now ≡ None }
+    ensures { result ≡ header_of file.now }
+{
+    match read_header(file) {
+        Ok(header) => header,
+        Err(_) => unreachable!(),
+    }
+}
+
 /// A file has no fault of the header exactly if it is an object file of eBPF whose section headers are in it.
 pub fn header_is_object()
     ensures fine { (file : List ℕ) → header_fault file ≡ None → IsObject file }

@@ -3,14 +3,19 @@
 //! [`function::function_named`] and [`function::only_function`] take a function's bytes from the bytes of a file, and
 //! [`source::lines_of`] the lines of C that it came from, as `.BTF` and `.BTF.ext` have them. Each reader answers on any bytes: what the
 //! file says, or the first fault in a stated order. A function that needs another part of the file is no program by itself,
-//! and is refused with the slot and the symbol. Nothing is allocated, and the time is
-//! linear in the size of the file: names have at most 255 bytes, and no table is read more than a few times.
+//! and is refused with the slot and the symbol. [`data_function::function_with_data`] also takes a function that loads addresses of read-only
+//! data, and reports which. Nothing is allocated but for that data, and the time is linear in the size of the file: names have at most 255
+//! bytes, and no table is read more than a few times.
 //!
 //! To be read in this order: `fault`, `field`, `header`, `section`, `text`, `symbol`, `relocation`, `call`, `functions`, `symbol_name`,
-//! `outside`, `object_fault`, `function`, `lines`, `shown`, `slot_lines`, `source`, `holding_line`.
+//! `outside`, `object_fault`, `function`, `lines`, `shown`, `slot_lines`, `source`, `holding_line`, `meant`, `marks`, `data_use`,
+//! `data_function`, `data_parts`.
 #![tactic(auto)]
 
 mod call;
+pub mod data_function;
+pub mod data_parts;
+pub mod data_use;
 pub mod fault;
 mod field;
 pub mod function;
@@ -18,6 +23,8 @@ pub mod functions;
 mod header;
 pub mod holding_line;
 pub mod lines;
+mod marks;
+mod meant;
 pub mod object_fault;
 pub mod outside;
 mod relocation;

@@ -80,7 +80,8 @@ fn mending(target: Target) -> &'static str
         Target::Function => {
             "a function of the file: make it static inline, and compile with -O2"
         }
-        Target::Variable => "a variable outside the function: pass it in the context",
+        Target::Variable =>
+            "a variable outside the function: pass it in the context; if it is constant, declare it const and leave volatile out",
         Target::StringLiteral => {
             "a string: compare byte by byte, as starts_with of ebpf_program.h does"
         }
@@ -88,6 +89,14 @@ fn mending(target: Target) -> &'static str
             "a constant of the size of a number: make it a macro or an enum, or pack a table of that size into a number",
         Target::Table =>
             "a table outside the function: pass it in the context, or pack it into a number",
+        Target::Addresses => {
+            "a table of addresses: keep numbers in it, such as offsets, or use a switch"
+        }
+        Target::Unplaced =>
+            "whose place in the file is not certain: make the table static, or compile with -fdata-sections",
+        Target::Unloaded => {
+            "which is not read-only data that can be loaded: pass it in the context"
+        }
         Target::External => {
             "which is not in the file: define it as static inline, and compile with -O2"
         }

@@ -6,7 +6,8 @@ ghost use Rattle.ebpf_object_file.specs.Header.{header_of};
 ghost use Rattle.ebpf_object_file.specs.Section.{sections_in};
 ghost use Rattle.ebpf_object_file.specs.Call.{is_call};
 ghost use Rattle.ebpf_object_file.specs.File.{IsOpen, AreFunctions};
-ghost use Rattle.ebpf_object_file.specs.Outside.{is_maps, target_by, target_of, IsReachedFirst, HasNone, IsRelocationFault, IsRelocated, IsCalling};
+ghost use Rattle.ebpf_object_file.specs.Outside.{is_maps, target_by, target_of, AreRelocations, IsReachedFirst, HasNone, IsRelocationFault};
+ghost use Rattle.ebpf_object_file.specs.Outside.{IsReferred, IsCalling};
 
 use crate::call::{called_at, find_called};
 use crate::fault::FileFault;
@@ -29,7 +30,7 @@ pub struct Place {
     pub size: u64,
 }
 
-/// What a symbol is, by the section that it is in. The order is that in which the tests are made, but for what isn't in the file.
+/// What a symbol is, by the section that it is in. The order is that in which the tests are made, but for the last four.
 #[derive(Clone, Copy)]
 pub enum Target {
     /// A map, as programs for the kernel define it: in the section `.maps` or `maps`.
@@ -44,6 +45,14 @@ pub enum Target {
     Scalar,
     /// Other data that isn't written: a constant table.
     Table,
+    /// Data with relocations of its own: a table of addresses. This and the next two are reported only of a function that is taken with
+    /// its data.
+    Addresses,
+    /// Other data whose address can't be loaded: it isn't loaded with a program, the slot isn't a 64-bit immediate, or its offset is more
+    /// than 32 bits.
+    Unloaded,
+    /// Data whose offset in its section isn't certain: global data after the first of its section, from a compiler that writes sums.
+    Unplaced,
     /// What the file doesn't define.
     External,
 }
@@ -63,7 +72,7 @@ pub struct Outside<'a> {
 }
 
 // Whether a section is one of maps.
-fn is_maps(file: &[u8], header: Header, index: u16) -> bool
+pub(crate) fn is_maps(file: &[u8], header: Header, index: u16) -> bool
     requires file { IsOpen file.now }
     requires header { header ≡ header_of file.now }
     requires index { index < sections_in file.now }
@@ -108,6 +117,25 @@ fn target_of(functions: Functions<'_>, symbol: Symbol, meant: Option<usize>) -> 
     target_by(flags, size_of(functions.symbols, symbol, meant))
 }
 
+// The relocations for a place's section: no bytes where no section has them.
+pub(crate) fn relocations_for(file: &[u8], header: Header, place: Place) -> Result<&[u8], FileFault>
+    requires file { IsOpen file.now }
+    requires header { header ≡ header_of file.now }
+    ensures found { IfOk result (λ t. AreRelocations file.now place t.now) }
+    ensures refused { IfErr result (λ e. IsRelocationFault file.now place e) }
+{
+    match count_sections(file, header, Wanted::AddendsFor(place.section)) {
+        Count::NoSuch => {}
+        Count::One(_) => return Err(FileFault::Addends),
+        Count::Several => return Err(FileFault::Addends),
+    }
+    match count_sections(file, header, Wanted::RelocationsFor(place.section)) {
+        Count::NoSuch => Ok(&[]),
+        Count::One(table) => Ok(bytes_of(file, header, table)),
+        Count::Several => Err(FileFault::RelocationsTwice),
+    }
+}
+
 // The first relocation that reaches a place, `None` where none does.
 pub(crate) fn relocation_in(
     file: &[u8],
@@ -119,33 +147,26 @@ pub(crate) fn relocation_in(
     ensures found { IfOk result (λ r. MatchOption r (HasNone file.now place) (λ r. IsReachedFirst file.now place r)) }
     ensures refused { IfErr result (λ e. IsRelocationFault file.now place e) }
 {
-    match count_sections(file, header, Wanted::AddendsFor(place.section)) {
-        Count::NoSuch => {}
-        Count::One(_) => return Err(FileFault::Addends),
-        Count::Several => return Err(FileFault::Addends),
-    }
-    let table = match count_sections(file, header, Wanted::RelocationsFor(place.section)) {
-        Count::NoSuch => return Ok(None),
-        Count::One(table) => table,
-        Count::Several => return Err(FileFault::RelocationsTwice),
+    let relocations = match relocations_for(file, header, place) {
+        Ok(relocations) => relocations,
+        Err(fault) => return Err(fault),
     };
-    let relocations = bytes_of(file, header, table);
     match find_relocation(relocations, place.from, place.size) {
         None => Ok(None),
         Some(number) => Ok(Some(relocation_of(relocations, number))),
     }
 }
 
-// What a relocation that reaches a place refers to.
-pub(crate) fn relocated<'a>(
+// What a relocation refers to, for a function at a place. What its symbol is can be known already.
+pub(crate) fn referred<'a>(
     functions: Functions<'a>,
     place: Place,
     relocation: Relocation,
+    known: Option<Target>,
 ) -> Outside<'a>
     requires functions { AreFunctions functions.file.now functions }
-    requires relocation { IsReachedFirst functions.file.now place relocation }
     requires section { place.section < sections_in functions.file.now }
-    ensures { IsRelocated functions.entry.file.now functions.entry.symbols.now functions.entry.strings.now place result }
+    ensures { IsReferred functions.entry.file.now functions.entry.symbols.now functions.entry.strings.now place relocation known result }
 {
     let Functions { file, header, .. } = functions;
     let symbol = symbol_or_null(functions.symbols, relocation.symbol as usize);
@@ -155,7 +176,7 @@ pub(crate) fn relocated<'a>(
         place,
         at: relocation.offset,
         slot: relocation.offset.saturating_sub(place.from) / 8,
-        target: target_of(functions, symbol, meant),
+        target: known.unwrap_or(target_of(functions, symbol, meant)),
         name: Name {
             bytes: name_of(functions, symbol, meant),
         },

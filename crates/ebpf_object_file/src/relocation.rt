@@ -39,7 +39,7 @@ impl Relocation {
     }
 
     // Whether it may write one of `size` bytes from an offset on.
-    fn reaches(&self, from: u64, size: u64) -> bool
+    pub(crate) fn reaches(&self, from: u64, size: u64) -> bool
         ensures { result ≡ reaches from size self.now }
     {
         if self.offset < from {

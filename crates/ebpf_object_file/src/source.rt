@@ -16,7 +16,7 @@ use crate::section::{bytes_of, section_of};
 use crate::text::{is_named, text_at};
 
 // The first section of a name.
-fn find_section(file: &[u8], header: Header, name: &[u8]) -> Option<u16>
+pub(crate) fn find_section(file: &[u8], header: Header, name: &[u8]) -> Option<u16>
     requires file { IsOpen file.now }
     requires header { header ≡ header_of file.now }
     requires names { header.names < sections_in file.now }

@@ -24,7 +24,7 @@ call | twice | 2 80 40 | bf200000000000002f1000000000000077010000030000000f10000
 const REFUSED: &str = "\
 table | weigh | slot 3 uses weights, a table outside the function: pass it in the context, or pack it into a number
 table | - | slot 3 uses weights, a table outside the function: pass it in the context, or pack it into a number
-section | first | slot 0 uses counter, a variable outside the function: pass it in the context
+section | first | slot 0 uses counter, a variable outside the function: pass it in the context; if it is constant, declare it const and leave volatile out
 call | entry | slot 3 calls twice, a function of the file: make it static inline, and compile with -O2
 call | far | slot 1 uses outside, which is not in the file: define it as static inline, and compile with -O2
 two | - | the file has more than one function: name one of checksum, largest

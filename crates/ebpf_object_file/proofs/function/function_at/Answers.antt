@@ -5,7 +5,20 @@ use Rattle.ebpf_object_file.proofs.function.function_at.Goals as goal
 
 pub returns-in-Ok-Some-clause-refused : goal.returns-in-Ok-Some-clause-refused
 returns-in-Ok-Some-clause-refused c =
-    inr (c.in-Ok.function.place, c.in-Ok.ensures.found.place, inr (c.relocated-outside.result, refl, inl c.relocated-outside.ensures))
+    let first = rw c.in-Ok-Some.field-0-is at c.in-Ok-Some.ensures.found in
+    inr (
+      c.in-Ok.function.place,
+      c.in-Ok.ensures.found.place,
+      inr (
+        c.referred-outside.result,
+        refl,
+        inl (record {
+          relocation = c.in-Ok-Some.relocation;
+          first = first;
+          is = c.referred-outside.ensures;
+        }),
+      ),
+    )
 
 pub returns-in-Some-clause-refused : goal.returns-in-Some-clause-refused
 returns-in-Some-clause-refused c =
@@ -15,8 +28,8 @@ returns-in-Some-clause-refused c =
     let none : HasNone f.file.now c.in-Ok.function.place = rw c.in-Ok-None.field-0-is at c.in-Ok-None.ensures.found in
     inr (c.in-Ok.function.place, c.in-Ok.ensures.found.place, inr (c.calling-outside.result, refl, inr (none, calls)))
 
-pub relocated-outside-requires-clause-section : goal.relocated-outside-requires-clause-section
-relocated-outside-requires-clause-section c =
+pub referred-outside-requires-clause-section : goal.referred-outside-requires-clause-section
+referred-outside-requires-clause-section c =
     place_section c.args.functions.file.now c.args.functions.symbols.now c.args.number c.in-Ok.function.place c.args.functions.header
     c.requires.functions.header c.requires.function c.in-Ok.ensures.found.place
 
