@@ -94,8 +94,11 @@ fn is_in_order(alloc: Global, program: &Program) -> Result<bool, AllocError>
     }
 }
 
-// The same program once more.
-fn copy_of(alloc: Global, program: &Program) -> Result<Program, AllocError>
+/// The same program once more.
+///
+/// # Errors
+/// It fails only where an allocation fails.
+pub fn copy_of(alloc: Global, program: &Program) -> Result<Program, AllocError>
     ensures { IfOk result (λ q. q ≡ program.now) }
 {
     let slots = program.slots();
