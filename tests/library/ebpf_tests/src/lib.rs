@@ -29,6 +29,10 @@ mod layout;
 #[cfg(test)]
 mod library;
 #[cfg(test)]
+mod link;
+#[cfg(test)]
+mod loader;
+#[cfg(test)]
 mod machine;
 #[cfg(test)]
 mod memory;
