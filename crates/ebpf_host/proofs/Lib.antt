@@ -3,3 +3,4 @@ pub mod ByKind
 pub mod CutOff
 pub mod Leaving
 pub mod Finding
+pub mod Forwarding

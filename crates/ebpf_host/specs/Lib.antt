@@ -4,3 +4,4 @@ pub mod Reports
 pub mod Leaving
 pub mod Finding
 pub mod Loading
+pub mod Unrolled

@@ -1,5 +1,5 @@
 -- What becomes of bytes that are loaded as a program.
-use Rattle.std.specs.Prelude.{◌≡◌, ◌<◌, ◌≤◌, ◌⊎◌, ℕ, List, string_bytes}
+use Rattle.std.specs.Prelude.{◌≡◌, ◌<◌, ◌≤◌, ◌⊎◌, ℕ, List, Some, string_bytes}
 use Rattle.ebpf_state.specs.declared.kinds.KindRow.{KindRow}
 use Rattle.ebpf_state.specs.Kinds.{AreKinds}
 use Rattle.ebpf_verify.specs.declared.decl.Decl.{Decl}
@@ -30,12 +30,26 @@ abbrev pub IsLoaded : List ℕ → (context held : ℕ) → Subject → Type 0
 IsLoaded bytes context held s = IsJudgedWith bytes context held (Accepted s)
 
 -- they are refused, with a sentence that says why
-pub record IsRefusedAs (bytes : List ℕ) (context held : ℕ) (r : Refusal) : Type 0 where
+pub record IsRefusal (bytes : List ℕ) (context held : ℕ) (r : Refusal) : Type 0 where
   pub judged : IsJudgedWith bytes context held (Refused r.code r.slot)
   pub why : IsWhy bytes judged.decl judged.rows (string_bytes r.sentence)
 
--- why they are not loaded: memory is asked for only where what is declared is in range
+-- and the slot is one of theirs
+abbrev pub IsRefusedAs : List ℕ → (context held : ℕ) → Refusal → Type 0
+IsRefusedAs bytes context held r = IsRefusal bytes context held r × (r.given ≡ Some r.slot)
+
+-- what is declared is in range, or a number is out of it
+abbrev pub IsInRange : (context held : ℕ) → Type 0
+IsInRange context held = (context ≤ 4096) × (held ≤ 64)
+
+abbrev pub IsOutOfRange : (context held : ℕ) → Type 0
+IsOutOfRange context held = (4096 < context) ⊎ (64 < held)
+
+-- why bytes are not loaded, by what holds of how they are refused: memory is asked for only where what is declared is in range
+abbrev pub IsFaultBy : (Refusal → Type 0) → (context held : ℕ) → LoadFault → Type 0
+IsFaultBy refuses context held (fault.Refused r) = refuses r
+IsFaultBy refuses context held fault.Declaration = IsOutOfRange context held
+IsFaultBy refuses context held fault.NoMemory = IsInRange context held
+
 abbrev pub IsLoadFault : List ℕ → (context held : ℕ) → LoadFault → Type 0
-IsLoadFault bytes context held (fault.Refused r) = IsRefusedAs bytes context held r
-IsLoadFault bytes context held fault.Declaration = (4096 < context) ⊎ (64 < held)
-IsLoadFault bytes context held fault.NoMemory = (context ≤ 4096) × (held ≤ 64)
+IsLoadFault bytes context held = IsFaultBy (IsRefusedAs bytes context held) context held

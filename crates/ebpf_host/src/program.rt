@@ -5,7 +5,7 @@ ghost use Rattle.ebpf_insn.specs.declared.program.TheConstants.{MAX_SLOTS};
 ghost use Rattle.ebpf_insn.specs.Program.{instructions};
 ghost use Rattle.ebpf_machine.specs.Kinds.{known_kinds};
 ghost use Rattle.ebpf_machine.specs.World.{kinds_of};
-ghost use Rattle.ebpf_host.specs.Loading.{IsLoaded, IsLoadFault, IsRefusedAs, IsJudgedWith};
+ghost use Rattle.ebpf_host.specs.Loading.{IsLoaded, IsLoadFault, IsRefusal, IsRefusedAs, IsJudgedWith};
 ghost use Rattle.ebpf_verify.specs.declared.decl.TheConstants.{MAX_CONTEXT, MAX_HELD};
 ghost use Rattle.ebpf_verify.specs.Verdict.{AreRows};
 
@@ -19,8 +19,8 @@ use ebpf_verify::examined::examine;
 use ebpf_verify::verified::Verified;
 use std::alloc::{AllocError, Global};
 
-/// A program of which no run traps, judged once, to be run any number of times. Only [`Program::load`] and [`Program::of`]
-/// make one.
+/// A program of which no run traps, judged once, to be run any number of times. Only [`Program::load`], [`Program::load_unrolled`] and
+/// [`Program::of`] make one.
 #[derive(Drop)]
 pub struct Program {
     pub(crate) verified: Verified,
@@ -50,6 +50,7 @@ impl Program {
             Judged::Refused { code, slot } => Err(LoadFault::Refused(Refusal {
                 code,
                 slot,
+                given: Some(slot),
                 sentence,
             })),
         }
@@ -79,8 +80,8 @@ impl Program {
     }
 }
 
-// What is declared, `None` where a number is out of its range.
-fn declared(context: u32, held: u32) -> Option<Decl>
+/// What is declared, `None` where a number is out of its range.
+pub(crate) fn declared(context: u32, held: u32) -> Option<Decl>
     ensures some { IsSome result ↔ ((context ≤ MAX_CONTEXT) × (held ≤ MAX_HELD)) }
     ensures value { IfSome result (λ d. (d.context ≡ context) × (d.held ≡ held)) }
 {

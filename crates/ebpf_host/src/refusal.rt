@@ -8,9 +8,13 @@ use std::alloc::AllocError;
 pub struct Refusal {
     /// The stage that refuses them, with its code.
     pub code: RefusalCode,
-    /// The lowest slot that is at fault.
+    /// The slot that is at fault: the lowest one, or one that closes a loop. Of a program that was laid out before it was judged it is a slot
+    /// of the new program.
     pub slot: u16,
-    /// What is wrong there, with the values that are known, and what would mend it: a line, indented by two blanks.
+    /// That slot in the bytes that were given: the same, unless the program was laid out, or none.
+    pub given: Option<u16>,
+    /// What is wrong there, with the values that are known, and what would mend it: a line, indented by two blanks, and of loops maybe
+    /// some more of these.
     pub sentence: String,
 }
 

@@ -34,6 +34,9 @@ const FETCH: &str = "\
 b701000001000000b70200000000000085000000040000001500050000000000bf060000000000007961000000000000\
 8500000003000000bf610000000000008500000002000000b7000000000000009500000000000000";
 
+// Counts down from 3 in a loop, and returns 0.
+const COUNT: &str = "b70000000300000017000000010000005500feff000000009500000000000000";
+
 fn bytes_of(rt: &impl Abort, alloc: Global, digits: &str) -> Vec<u8> {
     hex::decode(alloc, digits.as_bytes()).expect(rt, "these are no bytes")
 }
@@ -42,6 +45,15 @@ fn bytes_of(rt: &impl Abort, alloc: Global, digits: &str) -> Vec<u8> {
 fn loaded(rt: &impl Abort, alloc: Global, digits: &str, context: u32, held: u32) -> Program {
     let bytes = bytes_of(rt, alloc, digits);
     match Program::load(alloc, &bytes, context, held) {
+        Ok(program) => program,
+        Err(_) => panic!(rt; "the program is not loaded"),
+    }
+}
+
+// A program with loops that are unrolled.
+fn unrolled(rt: &impl Abort, alloc: Global, digits: &str) -> Program {
+    let bytes = bytes_of(rt, alloc, digits);
+    match Program::load_unrolled(alloc, &bytes, 0, 0) {
         Ok(program) => program,
         Err(_) => panic!(rt; "the program is not loaded"),
     }
@@ -233,4 +245,20 @@ fn what_is_refused_is_told_why(rt: HostRuntime) {
         _ => panic!(rt; "it is not refused"),
     }
     assert!(rt; loaded(&rt, alloc, "61100000000000009500000000000000", 4, 0).context() == 4);
+}
+
+#[test]
+fn a_loop_is_unrolled(rt: HostRuntime) {
+    let alloc = rt.alloc();
+    let mut machine = machine_of(&rt, alloc, 1);
+    let count = unrolled(&rt, alloc, COUNT);
+    runs(
+        &rt,
+        alloc,
+        &mut machine,
+        &count,
+        "",
+        100,
+        "exit 0 executed 8 peak 0",
+    );
 }

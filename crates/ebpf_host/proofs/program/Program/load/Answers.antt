@@ -36,17 +36,20 @@ returns-in-Accepted-clause-loaded c =
 
 pub returns-in-Refused-clause-refused : goal.returns-in-Refused-clause-refused
 returns-in-Refused-clause-refused c =
-    let value = c.in-Some.ensures.value in record {
-      judged = record {
-        decl = c.in-Some.decl;
-        rows = c.kinds-kinds.result;
-        declared = record { context_is = value.0; held_is = value.1; kinds = c.kinds-kinds.ensures };
-        is = record { examined = c.in_ok-examined.examined; is_examined = c.in_ok-examined.ensures; is = sym c.in-Refused.is ∙ c.of.ensures };
-      };
-      why = record {
-        examined = c.in_ok-examined.examined;
-        is_examined = c.in_ok-examined.ensures;
-        is = c.in_ok-write_why.ensures
-            ∙ ap (λ (text : List ℕ). text ++ why_of c.args.bytes.now c.in-Some.decl c.kinds-kinds.result c.in_ok-examined.examined) c.new-sentence.ensures.bytes;
-      };
-    }
+    let value = c.in-Some.ensures.value in (
+      record {
+        judged = record {
+          decl = c.in-Some.decl;
+          rows = c.kinds-kinds.result;
+          declared = record { context_is = value.0; held_is = value.1; kinds = c.kinds-kinds.ensures };
+          is = record { examined = c.in_ok-examined.examined; is_examined = c.in_ok-examined.ensures; is = sym c.in-Refused.is ∙ c.of.ensures };
+        };
+        why = record {
+          examined = c.in_ok-examined.examined;
+          is_examined = c.in_ok-examined.ensures;
+          is = c.in_ok-write_why.ensures
+              ∙ ap (λ (text : List ℕ). text ++ why_of c.args.bytes.now c.in-Some.decl c.kinds-kinds.result c.in_ok-examined.examined) c.new-sentence.ensures.bytes;
+        };
+      },
+      refl,
+    )
