@@ -72,7 +72,7 @@ typedef struct ebpf_machine { void *word; } ebpf_machine;
 /* Why bytes are refused. */
 typedef struct ebpf_refusal {
     char code[4];    /* the code, as "V8" or "O1", followed by zeros */
-    uint32_t slot;   /* the lowest slot of eight bytes that is at fault, 0 for O1 to O3 */
+    uint32_t slot;   /* the lowest slot of eight bytes that is at fault, 0 for O1 to O3; see also ebpf_program_load_unrolled */
     uint64_t length; /* how many bytes the text has, without the zero that ends it */
 } ebpf_refusal;
 
@@ -107,6 +107,23 @@ ebpf_status ebpf_program_load(ebpf_program *program, const uint8_t *bytes, size_
  * line of text after the sentence is the line of C that the slot came from, "  FILE:LINE:COLUMN: TEXT", and then the zero. */
 ebpf_status ebpf_program_load_elf(ebpf_program *program, const uint8_t *bytes, size_t length, const char *name, size_t name_length,
                                   uint32_t context, uint32_t held, char *text, size_t text_length, ebpf_refusal *refusal);
+
+/* Loads a program as ebpf_program_load does, but its jumps may lead back. Its loops are unrolled first, turn by turn, as far as the verifier
+ * knows that a run may go on: each run of the program then ends, and what is run is the unrolled program, which does the same. One without
+ * loops is laid out first, so that each jump leads forward, or stays as it is if each does.
+ *
+ * EBPF_REFUSED also where a loop can't be unrolled into 4,096 slots, with the code F3 and the slot that closes it; it isn't promised that a
+ * loop is unrolled if it could be. The text may have some more lines then, of which each says what a branch compares that leads out of the
+ * loop, or what is known before the slot. If a program that was laid out is refused, the slot is one of the new program, as `ebpf_run unroll`
+ * writes it. Unrolling a loop of many turns takes time and memory: milliseconds, not microseconds. */
+ebpf_status ebpf_program_load_unrolled(ebpf_program *program, const uint8_t *bytes, size_t length, uint32_t context, uint32_t held,
+                                       char *text, size_t text_length, ebpf_refusal *refusal);
+
+/* Loads a function of an object file as ebpf_program_load_elf does, but its jumps may lead back, as for ebpf_program_load_unrolled. The line
+ * of C is the last of the text: that of the slot of the function, also if it was laid out. */
+ebpf_status ebpf_program_load_elf_unrolled(ebpf_program *program, const uint8_t *bytes, size_t length, const char *name,
+                                           size_t name_length, uint32_t context, uint32_t held, char *text, size_t text_length,
+                                           ebpf_refusal *refusal);
 
 /* Makes `other` a second handle of the same program, which is not verified again. What it held before is freed. The two handles must
  * differ. EBPF_EMPTY: `program` holds nothing. EBPF_NO_MEMORY. */
@@ -157,6 +174,25 @@ static inline ebpf_status ebpf_program_load_elf_or_null(ebpf_program *program, c
                                  held, text || text_length ? text : &no_text, text_length, refusal);
 }
 #define ebpf_program_load_elf ebpf_program_load_elf_or_null
+
+static inline ebpf_status ebpf_program_load_unrolled_or_null(ebpf_program *program, const uint8_t *bytes, size_t length, uint32_t context,
+                                                             uint32_t held, char *text, size_t text_length, ebpf_refusal *refusal) {
+    uint8_t no_bytes = 0;
+    char no_text = 0;
+    return ebpf_program_load_unrolled(program, bytes || length ? bytes : &no_bytes, length, context, held,
+                                      text || text_length ? text : &no_text, text_length, refusal);
+}
+#define ebpf_program_load_unrolled ebpf_program_load_unrolled_or_null
+
+static inline ebpf_status ebpf_program_load_elf_unrolled_or_null(ebpf_program *program, const uint8_t *bytes, size_t length,
+                                                                 const char *name, size_t name_length, uint32_t context, uint32_t held,
+                                                                 char *text, size_t text_length, ebpf_refusal *refusal) {
+    uint8_t no_bytes = 0;
+    char no_text = 0;
+    return ebpf_program_load_elf_unrolled(program, bytes || length ? bytes : &no_bytes, length, name || name_length ? name : "", name_length,
+                                          context, held, text || text_length ? text : &no_text, text_length, refusal);
+}
+#define ebpf_program_load_elf_unrolled ebpf_program_load_elf_unrolled_or_null
 
 static inline ebpf_status ebpf_machine_run_or_null(ebpf_machine *machine, const ebpf_program *program, const uint8_t *context,
                                                    size_t context_length, uint64_t limit, uint64_t *output, size_t output_length,

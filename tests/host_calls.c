@@ -1,6 +1,6 @@
 /* Each function of include/ebpf_host.h with each of its statuses; programs that are refused, each with its code, from the file that is the
- * first argument; functions of the object files that are the others; handles that go from one thread to another; and each allocation
- * refused in turn: malloc and realloc are those below, by the linker's --wrap. */
+ * first argument; functions of the object files that are the others; programs with loops; handles that go from one thread to another; and
+ * each allocation refused in turn: malloc and realloc are those below, by the linker's --wrap. */
 #include <assert.h>
 #include <pthread.h>
 #include <stdio.h>
@@ -35,6 +35,7 @@ static ebpf_program program;
 static ebpf_report report;
 static ebpf_refusal refusal;
 static char text[512];
+static int unrolls; /* whether loads unroll loops first: of a program without jumps that lead back, both say the same */
 static uint64_t output[4];
 
 static size_t bytes_of(const char *digits, uint8_t *bytes) {
@@ -59,7 +60,8 @@ static ebpf_status load(const char *digits, uint32_t context, uint32_t held) {
     uint8_t bytes[512];
     size_t length = bytes_of(digits, bytes);
     mark();
-    ebpf_status status = ebpf_program_load(&program, bytes, length, context, held, text, sizeof text, &refusal);
+    ebpf_status status = (unrolls ? ebpf_program_load_unrolled : ebpf_program_load)(
+        &program, bytes, length, context, held, text, sizeof text, &refusal);
     /* only a refusal is reported, and its sentence ends with a zero */
     assert(status == EBPF_REFUSED ? strlen(text) == refusal.length : is_marked(text, sizeof text) && is_marked(&refusal, sizeof refusal));
     return status;
@@ -184,7 +186,8 @@ static void read_object(const char *path) {
 static ebpf_status load_function(const char *name, uint32_t context, uint32_t held) {
     mark();
     size_t length = strlen(name);
-    ebpf_status status = ebpf_program_load_elf(&program, object, object_length, name, length, context, held, text, sizeof text, &refusal);
+    ebpf_status status = (unrolls ? ebpf_program_load_elf_unrolled : ebpf_program_load_elf)(
+        &program, object, object_length, name, length, context, held, text, sizeof text, &refusal);
     assert(status == EBPF_REFUSED ? strlen(text) == refusal.length : is_marked(text, sizeof text) && is_marked(&refusal, sizeof refusal));
     return status;
 }
@@ -258,6 +261,74 @@ static void each_object(char **paths) {
     ebpf_program_free(&program);
 }
 
+/* counts down from 3 in a loop, and returns 0 */
+#define COUNT "b70000000300000017000000010000005500feff000000009500000000000000"
+/* counts down from 9999 */
+#define LONG "b70000000f27000017000000010000005500feff000000009500000000000000"
+/* counts up without end */
+#define ENDLESS "b70200000000000007020000010000000500feff000000009500000000000000"
+/* goes on to its last slot, and back from there to slot 1, which reads four bytes of the context */
+#define BACK "0500020000000000611000000000000095000000000000000500fdff00000000"
+
+/* whether a program is refused with a code, at a slot, with this text */
+static int stops(const char *digits, uint32_t context, const char *code, uint32_t slot, const char *why) {
+    return load(digits, context, 0) == EBPF_REFUSED && !strncmp(refusal.code, code, 4) && refusal.slot == slot && !strcmp(text, why);
+}
+
+/* programs with loops, and one that is laid out */
+static void each_loop(void) {
+    assert(ebpf_machine_new(&machine, 1) == EBPF_DONE);
+    assert(load(COUNT, 0, 0) == EBPF_REFUSED && !strcmp(refusal.code, "F3") && refusal.slot == 2);
+    assert(load(BACK, 4, 0) == EBPF_REFUSED && !strcmp(refusal.code, "F5") && refusal.slot == 1);
+    unrolls = 1;
+    assert(load(COUNT, 0, 0) == EBPF_DONE && run("", 100) == EBPF_DONE);
+    assert(report.exited && report.exit == 0 && report.executed == 8); /* without a jump from turn to turn */
+    assert(load(COUNT, 4097, 0) == EBPF_DECLARATION && load("00", 0, 65) == EBPF_DECLARATION);
+    assert(stops("00", 0, "I1", 0, "  there is 1 byte: a program is one or more whole slots of 8 bytes\n"));
+    assert(stops(LONG, 0, "F3", 2, "  slot 2 goes back to slot 1: after 2048 turns the program would have more than 4096 slots\n"
+                                   "  slot 2, jne64 r0, 0, -2, leads out of it: r0 was 9998, and is 7952\n"));
+    assert(stops(ENDLESS, 0, "F3", 2, "  slot 2 goes back to slot 1: after 2048 turns the program would have more than 4096 slots\n"
+                                      "  nothing leads out of it\n"));
+    assert(run("", 100) == EBPF_DONE && report.executed == 8); /* what was loaded last is kept */
+    assert(load(BACK, 4, 0) == EBPF_DONE && run("07000000", 100) == EBPF_DONE && report.exit == 7 && report.executed == 4);
+    assert(stops(BACK, 3, "V8", 2, "  slot 2 reads 4 bytes at [r1+0],  r1 context+0, but the context has 3 bytes: declare a context of 4 bytes\n"));
+    ebpf_machine_free(&machine);
+    ebpf_program_free(&program);
+    unrolls = 0;
+}
+
+/* The function `largest` of two.o goes on to its last slot, and back from there to slot 1, and exits at slots 8 and 9: its slot 1 is slot 2
+ * of the program that is laid out, and the line of C is that of slot 1. */
+static void a_function_laid_out(const char *path) {
+    read_object(path);
+    uint8_t first[8];
+    bytes_of("6112040000000000", first);
+    uint8_t *slots = (uint8_t *)memmem(object, object_length, first, 8) + 64;
+    assert(!memcmp(slots, first, 8));
+    bytes_of("0500090000000000", slots);
+    bytes_of("95000000000000009500000000000000" "0500f6ff00000000", slots + 64);
+    unrolls = 1;
+    assert(refuses("largest", 3, "V8", 2, "  slot 2 reads 4 bytes") && ends("\n  ./two.c:12:13: u64 most = words[0];\n"));
+    unrolls = 0;
+    assert(refuses("largest", 3, "F5", 1, "  slot 1 cannot be reached"));
+}
+
+/* the function `adler` of the examples, whose loop has as many turns as its context says; the checksum is published for this text */
+static void a_function_unrolled(const char *path) {
+    const uint8_t context[33] = "\x09Wikipedia";
+    read_object(path);
+    assert(ebpf_machine_new(&machine, 1) == EBPF_DONE);
+    assert(load_function("", sizeof context, 0) == EBPF_REFUSED && refusal.code[0] == 'F');
+    unrolls = 1;
+    assert(load_function("", sizeof context, 0) == EBPF_DONE && load_function("adler", sizeof context, 0) == EBPF_DONE);
+    assert(load_function("adle", sizeof context, 0) == EBPF_REFUSED && !strcmp(refusal.code, "O2"));
+    assert(ebpf_machine_run(&machine, &program, context, sizeof context, 4096, NULL, 0, &report) == EBPF_DONE);
+    assert(report.exited && report.exit == 0x11e60398);
+    ebpf_machine_free(&machine);
+    ebpf_program_free(&program);
+    unrolls = 0;
+}
+
 /* The load of a function with n allocations served answers want of memory and leaves the handle empty, or answers this. Whether one
  * was refused. */
 static int function_served(const char *name, long allocations, ebpf_status status) {
@@ -317,6 +388,8 @@ static void no_items(void) {
     assert(ebpf_program_load(&program, bytes, bytes_of(READ, bytes), 3, 0, NULL, 0, &refusal) == EBPF_REFUSED);
     assert(!strcmp(refusal.code, "V8") && refusal.length > 20);
     assert(ebpf_program_load_elf(&program, NULL, 0, NULL, 0, 0, 0, NULL, 0, &refusal) == EBPF_REFUSED && !strcmp(refusal.code, "O1"));
+    assert(ebpf_program_load_unrolled(&program, NULL, 0, 0, 0, NULL, 0, &refusal) == EBPF_REFUSED && !strcmp(refusal.code, "I1"));
+    assert(ebpf_program_load_elf_unrolled(&program, NULL, 0, NULL, 0, 0, 0, NULL, 0, &refusal) == EBPF_REFUSED && !strcmp(refusal.code, "O1"));
     assert(ebpf_machine_new(&machine, 1) == EBPF_DONE);
     assert(ebpf_program_load(&program, bytes, bytes_of(CELL, bytes), 0, 1, NULL, 0, &refusal) == EBPF_DONE);
     assert(ebpf_machine_run(&machine, &program, NULL, 0, 100, output, 4, &report) == EBPF_DONE && report.exit == 5);
@@ -390,12 +463,41 @@ static int shared(long allocations) {
     return refused;
 }
 
+/* The load of a loop with n allocations served, the same. */
+static int loop_served(long allocations, const char *digits, ebpf_status status) {
+    refused = 0;
+    left = allocations;
+    ebpf_status loaded = load(digits, 3, 0);
+    left = -1;
+    assert(refused ? loaded == EBPF_NO_MEMORY : loaded == status);
+    assert((loaded == EBPF_DONE) == !!program.word);
+    ebpf_program_free(&program);
+    return refused;
+}
+
+/* The allocations of loads of a loop that is unrolled, and of a program that is refused after it was laid out. */
+static long each_allocation_of_loops(void) {
+    long of_loop = 0, of_refusal = 0;
+    unrolls = 1;
+    while (loop_served(of_loop, COUNT, EBPF_DONE)) of_loop++;
+    while (loop_served(of_refusal, BACK, EBPF_REFUSED)) of_refusal++;
+    unrolls = 0;
+    assert(of_loop > 10 && of_refusal > 10);
+    return of_loop + of_refusal;
+}
+
 int main(int count, char **words) {
-    assert(count == 6);
-    each_status();
+    assert(count == 7);
+    for (unrolls = 1; unrolls >= 0; unrolls--) {
+        each_status();
+        each_object(words + 2);
+    }
+    unrolls = 0;
     unsigned refusals = each_refusal(words[1]);
     a_short_text();
-    each_object(words + 2);
+    each_loop();
+    a_function_laid_out(words[2]);
+    a_function_unrolled(words[6]);
     shares();
     no_items();
     status_texts();
@@ -407,7 +509,7 @@ int main(int count, char **words) {
     read_object(words[2]);
     long loads = each_allocation("largest", EBPF_DONE), faults = each_allocation("", EBPF_REFUSED);
     assert(loads > 5 && faults > 0);
-    allocations += loads + faults + of_share;
+    allocations += loads + faults + of_share + each_allocation_of_loops();
     printf("host: %u refused programs, %ld refused allocations, %ld of a share\n", refusals, allocations, of_share);
     return 0;
 }

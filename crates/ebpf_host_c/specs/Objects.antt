@@ -1,5 +1,5 @@
 -- What becomes of a function of an object file that C loads.
-use Rattle.std.specs.Prelude.{ℕ, ◌≡◌, ◌⊎◌, ◌+◌, ◌*◌, ◌++◌, List, [], Option, Some, None, codes, cond, nat_lt, string_bytes}
+use Rattle.std.specs.Prelude.{ℕ, ◌≡◌, ◌⊎◌, ◌+◌, ◌*◌, ◌++◌, List, Option, Some, None, codes, cond, nat_lt}
 use Rattle.ebpf_object_file.specs.declared.function.Function.{Function}
 use Rattle.ebpf_object_file.specs.declared.holding_line.HoldingLine.{HoldingLine}
 use Rattle.ebpf_object_file.specs.declared.object_fault.ObjectFault.{ObjectFault}
@@ -8,13 +8,11 @@ use Rattle.ebpf_object_file.specs.declared.outside.Place.{Place}
 use Rattle.ebpf_object_file.specs.Function.{IsWanted, IsWantedFault}
 use Rattle.ebpf_object_file.specs.HoldingLine.{IsHoldingLine}
 use Rattle.ebpf_object_file.specs.Sentences.{object_code, object_sentence}
-use Rattle.ebpf_object_file.specs.Shown.{place_row}
 use Rattle.ebpf_verify.specs.Subject.{Subject}
-use Rattle.ebpf_command.specs.Codes.{refusal_name}
 use Rattle.ebpf_host.specs.declared.refusal.Refusal.{Refusal}
-use Rattle.ebpf_host.specs.Loading.{IsLoaded, IsRefusedAs}
+use Rattle.ebpf_host_c.specs.declared.reported.InFile.{InFile}
 use Rattle.ebpf_host_c.specs.declared.reported.Refused.{Refused}
-use Rattle.ebpf_host_c.specs.Reported.{IsReported}
+use Rattle.ebpf_host_c.specs.Reported.{IsReported, IsRefusalReported, line_under}
 
 -- the slot that needs another part of the file, at most the greatest number of 32 bits; 0 for the other faults
 abbrev pub fault_slot : ObjectFault → ℕ
@@ -33,26 +31,19 @@ HasFunction file name = (f : Function) × IsWanted file name f
 abbrev pub HasFault : (file name : List ℕ) → Type 0
 HasFault file name = (e : ObjectFault) × IsWantedFault file name e
 
--- the file has the function, whose slots are accepted, as this program
-abbrev pub IsFunctionLoaded : (file name : List ℕ) (context held : ℕ) → Subject → Type 0
-IsFunctionLoaded file name context held s = (f : Function) × IsWanted file name f × IsLoaded f.code.now context held s
+-- the file has the function, whose slots are loaded, as the first says
+abbrev pub IsFunctionLoaded : (List ℕ → Subject → Type 0) → (file name : List ℕ) → Subject → Type 0
+IsFunctionLoaded loads file name s = (f : Function) × IsWanted file name f × loads f.code.now s
 
--- the line of C under a sentence, where there is one
-abbrev pub line_under : Option HoldingLine → List ℕ
-line_under None = []
-line_under (Some h) = place_row h.lines h.line
+-- the line of C that holds at a slot of a function; of no slot there is none
+abbrev pub IsLineAt : List ℕ → Place → Option ℕ → Option HoldingLine → Type 0
+IsLineAt file p None line = line ≡ None
+IsLineAt file p (Some slot) line = IsHoldingLine file p (p.from + 8 * slot) line
 
--- what C is given of a refusal of a function: the sentence, and under it the line of C that holds at the slot
-pub record IsReportedWithLine (r : Refusal) (file : List ℕ) (p : Place) (room text : List ℕ) (filled : Refused) : Type 0 where
-  pub line : Option HoldingLine
-  pub line_is : IsHoldingLine file p (p.from + 8 * r.slot) line
-  pub reported_as : IsReported (refusal_name r.code) r.slot (string_bytes r.sentence ++ line_under line) room text filled
-
--- a function's slots are refused
-pub record IsRefusalOf (file : List ℕ) (f : Function) (context held : ℕ) (room text : List ℕ) (filled : Refused) : Type 0 where
-  pub refusal : Refusal
-  pub is : IsRefusedAs f.code.now context held refusal
-  pub reported_with_line : IsReportedWithLine refusal file f.place room text filled
+-- that of slots which may be a function's; of others there is none
+abbrev pub IsLineIn : Option InFile → Option ℕ → Option HoldingLine → Type 0
+IsLineIn None slot line = line ≡ None
+IsLineIn (Some f) slot line = IsLineAt f.file.now f.place slot line
 
 -- the line of C of a fault is that of the slot that needs another part of the file
 abbrev pub IsLineOfFault : List ℕ → ObjectFault → Option HoldingLine → Type 0
@@ -65,8 +56,8 @@ pub record IsFaultReported (file : List ℕ) (e : ObjectFault) (room text : List
   pub line_is : IsLineOfFault file e line
   pub reported_as : IsReported (object_code e) (fault_slot e) (fault_line e ++ line_under line) room text filled
 
--- the file has the function, whose slots are refused, or has no such program
-abbrev pub IsFunctionRefused : (file name : List ℕ) (context held : ℕ) (room text : List ℕ) → Refused → Type 0
-IsFunctionRefused file name context held room text filled =
-    ((f : Function) × IsWanted file name f × IsRefusalOf file f context held room text filled)
+-- the file has the function, whose slots are refused, as the first says, or has no such program
+abbrev pub IsFunctionRefused : (List ℕ → Refusal → Type 0) → (file name : List ℕ) (room text : List ℕ) → Refused → Type 0
+IsFunctionRefused refuses file name room text filled =
+    ((f : Function) × IsWanted file name f × IsRefusalReported (refuses f.code.now) (IsLineAt file f.place) room text filled)
     ⊎ ((e : ObjectFault) × IsWantedFault file name e × IsFaultReported file e room text filled)

@@ -1,5 +1,7 @@
 -- What C is given.
-use Rattle.std.specs.Prelude.{◌≡◌, ℕ, Bool, true, false, ◌++◌, List, [], ◌∷◌, length, filter, take, drop, is_some, unwrap_or, string_bytes}
+use Rattle.std.specs.Prelude.{◌≡◌, ℕ, Bool, true, false, ◌++◌, List, [], ◌∷◌, length, filter, take, drop, Option, Some, None, is_some, unwrap_or, string_bytes}
+use Rattle.ebpf_object_file.specs.declared.holding_line.HoldingLine.{HoldingLine}
+use Rattle.ebpf_object_file.specs.Shown.{place_row}
 use Rattle.ebpf_verify.specs.Subject.{Subject}
 use Rattle.ebpf_command.specs.Codes.{refusal_name}
 use Rattle.ebpf_machine.specs.declared.report.Reply.{Reply}
@@ -10,7 +12,6 @@ use Rattle.ebpf_host.specs.declared.refusal.Refusal.{Refusal}
 use Rattle.ebpf_host.specs.declared.stocks.Stocks.{Stocks}
 use Rattle.ebpf_host.specs.Finding.{AreFound}
 use Rattle.ebpf_host.specs.Leaving.{AreLeft}
-use Rattle.ebpf_host.specs.Loading.{IsRefusedAs}
 use Rattle.ebpf_host.specs.Reports.{IsReportWithin}
 use Rattle.ebpf_host_c.specs.declared.reported.Refused.{Refused}
 use Rattle.ebpf_host_c.specs.declared.reported.Reported.{Reported}
@@ -33,11 +34,22 @@ pub record IsReported (code : List ℕ) (slot : ℕ) (sentence room text : List 
   pub length_is : filled.length ≡ length sentence
   pub text_is : text ≡ copied (sentence ++ 0 ∷ []) room
 
--- a refusal
-pub record IsRefusalReported (bytes : List ℕ) (context held : ℕ) (room text : List ℕ) (filled : Refused) : Type 0 where
+-- the line of C under a sentence, where there is one
+abbrev pub line_under : Option HoldingLine → List ℕ
+line_under None = []
+line_under (Some h) = place_row h.lines h.line
+
+-- a refusal, and under its sentence a line of C, or none, by the slot of what was given
+pub record IsReportedWith (r : Refusal) (lines : Option ℕ → Option HoldingLine → Type 0) (room text : List ℕ) (filled : Refused) : Type 0 where
+  pub line : Option HoldingLine
+  pub line_is : lines r.given line
+  pub reported_as : IsReported (refusal_name r.code) r.slot (string_bytes r.sentence ++ line_under line) room text filled
+
+-- what is given is refused as the first says, with such a line
+pub record IsRefusalReported (refuses : Refusal → Type 0) (lines : Option ℕ → Option HoldingLine → Type 0) (room text : List ℕ) (filled : Refused) : Type 0 where
   pub refusal : Refusal
-  pub is : IsRefusedAs bytes context held refusal
-  pub reported_as : IsReported (refusal_name refusal.code) refusal.slot (string_bytes refusal.sentence) room text filled
+  pub is : refuses refusal
+  pub reported_with : IsReportedWith refusal lines room text filled
 
 -- a report of a run on a machine, with the output as far as there is room
 pub record IsReportWritten (old new : Stocks) (s : Subject) (context : List ℕ) (limit : ℕ) (room output : List ℕ) (filled : Reported) : Type 0 where

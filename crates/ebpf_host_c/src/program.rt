@@ -1,22 +1,12 @@
 //! Programs, as C loads and frees them.
 
-ghost use Rattle.std.specs.Prelude.{◌≡◌, ◌≢◌, ◌⊎◌, ◌<◌, ◌≤◌, None, length};
-ghost use Rattle.std.specs.Arc.{arc_value};
-ghost use Rattle.std.specs.Option.{MatchOption};
-ghost use Rattle.ebpf_host.specs.Loading.{IsLoaded};
-ghost use Rattle.ebpf_host_c.specs.Objects.{HasFault, HasFunction, IsFunctionLoaded, IsFunctionRefused, IsRefusalOf};
-ghost use Rattle.ebpf_host_c.specs.Reported.{IsRefusalReported};
-ghost use Rattle.ebpf_host_c.specs.declared.status.TheConstants.{DECLARATION, DONE, NO_MEMORY, REFUSED};
-ghost use Rattle.ebpf_verify.specs.declared.decl.TheConstants.{MAX_CONTEXT, MAX_HELD};
+ghost use Rattle.std.specs.Prelude.{◌≡◌, None};
+ghost use Rattle.ebpf_host_c.specs.Loads.{Loads, LoadsFunction};
 
-use crate::reported::{Refused, report_fault, report_refusal, report_refusal_with_line};
-use crate::share::keep;
-use crate::status::{DECLARATION, NO_MEMORY, REFUSED};
+use crate::loading::{Loops, Way, load_function, load_slots};
+use crate::reported::Refused;
 use ebpf_handle::program::ProgramHandle;
-use ebpf_host::program::Program;
-use ebpf_host::refusal::LoadFault;
-use ebpf_object_file::function::{Function, wanted_function};
-use std::alloc::{AllocError, Global};
+use std::alloc::Global;
 
 /// Loads a program, and frees what the handle held before. A refusal is reported by `refused`, and its sentence by `text` with a zero
 /// after it, as far as there is room.
@@ -30,23 +20,37 @@ pub extern "C" fn ebpf_program_load(
     text: &mut [u8],
     refused: &mut Refused,
 ) -> u32
-    ensures loaded { result ≡ DONE → MatchOption program.new.value ⊥ (λ p. IsLoaded bytes.now context held (arc_value p).verified) }
-    ensures refused { result ≡ REFUSED → IsRefusalReported bytes.now context held text.old text.new refused.new }
-    ensures untold { result ≢ 1 → (text.new ≡ text.old) × (refused.new ≡ refused.old) }
-    ensures declaration { result ≡ DECLARATION → (MAX_CONTEXT < context) ⊎ (MAX_HELD < held) }
-    ensures memory { result ≡ NO_MEMORY → (context ≤ MAX_CONTEXT) × (held ≤ MAX_HELD) }
-    ensures statuses { (result ≡ DONE) ⊎ (result ≡ REFUSED) ⊎ (result ≡ DECLARATION) ⊎ (result ≡ NO_MEMORY) }
-    ensures kept { result ≢ 0 → program.new.value ≡ program.old.value }
+    ensures { Loads Loops.Refused context held bytes.now
+        program.old.value program.new.value text.old text.new refused.old refused.new result }
 {
-    match Program::load(alloc, bytes, context, held) {
-        Ok(loaded) => keep(alloc, program, loaded),
-        Err(LoadFault::Refused(refusal)) => {
-            report_refusal(refusal, text, refused);
-            REFUSED
-        }
-        Err(LoadFault::Declaration) => DECLARATION,
-        Err(LoadFault::NoMemory) => NO_MEMORY,
-    }
+    let refusing = Way {
+        loops: Loops::Refused,
+        context,
+        held,
+    };
+    load_slots(alloc, program, bytes, None, refusing, text, refused)
+}
+
+/// Loads a program whose jumps may lead back, and otherwise does what [`ebpf_program_load`] does.
+#[unsafe(no_mangle)]
+pub extern "C" fn ebpf_program_load_unrolled(
+    alloc: Global,
+    program: &mut ProgramHandle,
+    bytes: &[u8],
+    context: u32,
+    held: u32,
+    text: &mut [u8],
+    refused: &mut Refused,
+) -> u32
+    ensures { Loads Loops.Unrolled context held bytes.now
+        program.old.value program.new.value text.old text.new refused.old refused.new result }
+{
+    let unrolling = Way {
+        loops: Loops::Unrolled,
+        context,
+        held,
+    };
+    load_slots(alloc, program, bytes, None, unrolling, text, refused)
 }
 
 /// Loads a function of an object file, that of a name or the file's only one where the name is empty, and otherwise does what
@@ -63,59 +67,39 @@ pub extern "C" fn ebpf_program_load_elf(
     text: &mut [u8],
     refused: &mut Refused,
 ) -> u32
-    ensures loaded { result ≡ DONE → MatchOption program.new.value ⊥ (λ p. IsFunctionLoaded bytes.now name.now context held (arc_value p).verified) }
-    ensures refused { result ≡ REFUSED → IsFunctionRefused bytes.now name.now context held text.old text.new refused.new }
-    ensures untold { result ≢ 1 → (text.new ≡ text.old) × (refused.new ≡ refused.old) }
-    // The file is judged first.
-    ensures declaration { result ≡ DECLARATION → HasFunction bytes.now name.now × ((MAX_CONTEXT < context) ⊎ (MAX_HELD < held)) }
-    ensures memory { result ≡ NO_MEMORY → HasFault bytes.now name.now ⊎ ((context ≤ MAX_CONTEXT) × (held ≤ MAX_HELD)) }
-    ensures statuses { (result ≡ DONE) ⊎ (result ≡ REFUSED) ⊎ (result ≡ DECLARATION) ⊎ (result ≡ NO_MEMORY) }
-    ensures kept { result ≢ 0 → program.new.value ≡ program.old.value }
+    ensures { LoadsFunction Loops.Refused context held bytes.now name.now
+        program.old.value program.new.value text.old text.new refused.old refused.new result }
 {
-    match wanted_function(bytes, name) {
-        Ok(function) => {
-            load_function(
-                alloc, program, bytes, function, context, held, text, refused,
-            )
-        }
-        Err(fault) => match report_fault(alloc, bytes, fault, text, refused) {
-            Ok(()) => REFUSED,
-            Err(AllocError) => NO_MEMORY,
-        },
-    }
+    let refusing = Way {
+        loops: Loops::Refused,
+        context,
+        held,
+    };
+    load_function(alloc, program, bytes, name, refusing, text, refused)
 }
 
-// Loads a function that was found.
-fn load_function(
+/// Loads a function of an object file whose jumps may lead back, and otherwise does what [`ebpf_program_load_elf`] does. Of a program that
+/// was laid out, the line of C is that of the slot that the refused one copies.
+#[unsafe(no_mangle)]
+pub extern "C" fn ebpf_program_load_elf_unrolled(
     alloc: Global,
     program: &mut ProgramHandle,
-    file: &[u8],
-    function: Function<'_>,
+    bytes: &[u8],
+    name: &[u8],
     context: u32,
     held: u32,
     text: &mut [u8],
     refused: &mut Refused,
 ) -> u32
-    requires { function.place.from ≤ length file.now }
-    ensures loaded { result ≡ DONE → MatchOption program.new.value ⊥ (λ p. IsLoaded function.entry.code.now context held (arc_value p).verified) }
-    ensures refused { result ≡ REFUSED → IsRefusalOf file.now function.entry context held text.old text.new refused.new }
-    ensures untold { result ≢ 1 → (text.new ≡ text.old) × (refused.new ≡ refused.old) }
-    ensures declaration { result ≡ DECLARATION → (MAX_CONTEXT < context) ⊎ (MAX_HELD < held) }
-    ensures memory { result ≡ NO_MEMORY → (context ≤ MAX_CONTEXT) × (held ≤ MAX_HELD) }
-    ensures statuses { (result ≡ DONE) ⊎ (result ≡ REFUSED) ⊎ (result ≡ DECLARATION) ⊎ (result ≡ NO_MEMORY) }
-    ensures kept { result ≢ 0 → program.new.value ≡ program.old.value }
+    ensures { LoadsFunction Loops.Unrolled context held bytes.now name.now
+        program.old.value program.new.value text.old text.new refused.old refused.new result }
 {
-    match Program::load(alloc, function.code, context, held) {
-        Ok(loaded) => keep(alloc, program, loaded),
-        Err(LoadFault::Refused(refusal)) => {
-            match report_refusal_with_line(refusal, file, function.place, text, refused) {
-                Ok(()) => REFUSED,
-                Err(AllocError) => NO_MEMORY,
-            }
-        }
-        Err(LoadFault::Declaration) => DECLARATION,
-        Err(LoadFault::NoMemory) => NO_MEMORY,
-    }
+    let unrolling = Way {
+        loops: Loops::Unrolled,
+        context,
+        held,
+    };
+    load_function(alloc, program, bytes, name, unrolling, text, refused)
 }
 
 /// Frees a handle, and with the last one its program. The handle holds nothing then, and may be freed again.

@@ -1,10 +1,9 @@
 //! What C is given: why bytes are refused, and what a run did.
 
-ghost use Rattle.std.specs.Prelude.{◌≡◌, ◌≤◌, ◌++◌, ◌∷◌, [], OnOk, OnErr, filter, is_some, length, string_bytes, unwrap_or};
+ghost use Rattle.std.specs.Prelude.{◌≡◌, ◌≤◌, ◌++◌, ◌∷◌, [], IfSome, OnOk, OnErr, filter, is_some, length, string_bytes, unwrap_or};
 ghost use Rattle.ebpf_machine.specs.Whole.{is_granted, is_null, is_fetched};
-ghost use Rattle.ebpf_command.specs.Codes.{refusal_name};
-ghost use Rattle.ebpf_host_c.specs.Objects.{IsFaultReported, IsLineOfFault, IsReportedWithLine, fault_slot, line_under};
-ghost use Rattle.ebpf_host_c.specs.Reported.{IsReported, copied, is_empty};
+ghost use Rattle.ebpf_host_c.specs.Objects.{IsFaultReported, IsLineIn, IsLineOfFault, fault_slot};
+ghost use Rattle.ebpf_host_c.specs.Reported.{IsReported, IsReportedWith, copied, is_empty, line_under};
 
 use ebpf_host::refusal::Refusal;
 use ebpf_machine::ended::Ended;
@@ -21,7 +20,7 @@ pub struct Refused {
     /// The letter of the stage that refuses them, `I`, `F` or `V`, or `O` for an object file, and the digits after it; zero where there
     /// is none.
     pub code: [u8; 4],
-    /// The lowest slot that is at fault, 0 where the file is.
+    /// The slot that is at fault, as [`Refusal`] has it, or 0 where the file is.
     pub slot: u32,
     /// How many bytes the sentence and the line of C under it have, without the zero after them.
     pub length: u64,
@@ -49,6 +48,13 @@ pub struct Reported {
     pub missed: u64,
     /// Whether it exited within the limit.
     pub exited: bool,
+}
+
+/// Where in an object file a function is.
+#[derive(Clone, Copy)]
+pub struct InFile<'a> {
+    pub file: &'a [u8],
+    pub place: Place,
 }
 
 // Copies as many items as there is room for.
@@ -86,15 +92,6 @@ fn report_as(code: &str, slot: u32, sentence: &[u8], text: &mut [u8], refused: &
     };
 }
 
-/// Tells a refusal.
-pub(crate) fn report_refusal(refusal: Refusal, text: &mut [u8], refused: &mut Refused)
-    ensures { IsReported (refusal_name refusal.code) refusal.slot (string_bytes refusal.sentence) text.old text.new refused.new }
-{
-    let code = refusal.code.name();
-    let slot = u32::from(refusal.slot);
-    report_as(code, slot, refusal.sentence.as_bytes(), text, refused);
-}
-
 // The slot of a fault.
 fn slot_of(fault: ObjectFault<'_>) -> u32
     ensures { result ≡ fault_slot fault.entry }
@@ -121,25 +118,39 @@ fn add_line(sentence: &mut String, holding: Option<HoldingLine<'_>>) -> Result<(
     }
 }
 
-/// Tells a refusal of a function of an object file, with the line of C that holds at its slot. It fails only where an allocation fails.
-pub(crate) fn report_refusal_with_line(
+// The line of C that holds at a slot, if the slots are a function's.
+fn line_in<'a>(source: Option<InFile<'a>>, slot: Option<u16>) -> Option<HoldingLine<'a>>
+    requires { IfSome source (λ f. f.place.from ≤ length f.file.now) }
+    ensures { IsLineIn source.entry slot result }
+{
+    match (source, slot) {
+        (Some(function), Some(slot)) => {
+            let at = function.place.from + 8 * u64::from(slot);
+            holding_line(function.file, function.place, at)
+        }
+        _ => None,
+    }
+}
+
+/// Tells a refusal of slots, which may be a function's: with the line of C then that holds at its slot. It fails only where an allocation
+/// fails.
+pub(crate) fn report_refusal(
     refusal: Refusal,
-    file: &[u8],
-    place: Place,
+    source: Option<InFile<'_>>,
     text: &mut [u8],
     refused: &mut Refused,
 ) -> Result<(), AllocError>
-    requires { place.from ≤ length file.now }
-    ensures reported { OnOk result (IsReportedWithLine refusal file.now place text.old text.new refused.new) }
+    requires { IfSome source (λ f. f.place.from ≤ length f.file.now) }
+    ensures reported { OnOk result (IsReportedWith refusal (IsLineIn source.entry) text.old text.new refused.new) }
     ensures unchanged { OnErr result ((text.new ≡ text.old) × (refused.new ≡ refused.old)) }
 {
     let Refusal {
         code,
         slot,
+        given,
         mut sentence,
     } = refusal;
-    let at = place.from + 8 * slot as u64;
-    add_line(&mut sentence, holding_line(file, place, at))?;
+    add_line(&mut sentence, line_in(source, given))?;
     report_as(
         code.name(),
         u32::from(slot),
