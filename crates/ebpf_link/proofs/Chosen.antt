@@ -21,7 +21,7 @@ right q word shown = record { fetched = fetched q word (λ slot. (shown slot).ho
 
 -- the program linked with a free word, and what the checks say of it
 pub record IsTry (w : Wanted) (number : ℕ) (l : Linked) (judged : Judged) : Type 0 where
-  pub few : number < 64
+  pub few : number < 4
   pub is : l.word ≡ word_at number
   pub free : IsFree w.program l.word
   pub links : LinksTo w l.word l.program
@@ -52,7 +52,7 @@ module _ (w : Wanted) where
       }
 
   -- the first that was refused, once all were tried
-  by_refusal : (refused : Option Linked) (l : Linked) → IsTried w 64 refused → refused ≡ Some l → IsLinkedBy w l.word l.program
+  by_refusal : (refused : Option Linked) (l : Linked) → IsTried w 4 refused → refused ≡ Some l → IsLinkedBy w l.word l.program
   by_refusal None l tried is = absurd (cc)
   by_refusal (Some m) l tried is =
       let same : m ≡ l = cc in
@@ -67,7 +67,7 @@ module _ (w : Wanted) where
       }
 
   -- and a fault, if none was kept
-  pub chosen : (refused : Option Linked) (result : Result Linked LinkFault) → IsTried w 64 refused → result ≡ ok_or refused NoWord
+  pub chosen : (refused : Option Linked) (result : Result Linked LinkFault) → IsTried w 4 refused → result ≡ ok_or refused NoWord
       → IfOk result (λ l. IsLinkedBy w l.word l.program)
   chosen None result tried is = rw is tt
   chosen (Some l) result tried is = rw is (by_refusal (Some l) l tried refl)

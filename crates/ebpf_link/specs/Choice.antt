@@ -63,11 +63,11 @@ pub record IsLinkedBy (w : Wanted) (word : ℤ) (q : List (Option Insn)) : Type 
   pub added : AreAdded w.offsets word q
   pub right : IsAccepted (subject_of w q) → IsRight q word
   pub pointing : IsAccepted (subject_of w q) → ArePointing w.program w.offsets w.declared q
-  pub best : flow_fault q ≡ None → (IsAccepted (subject_of w q) → ⊥) → (number : ℕ) → number < 64 → IsFree w.program (word_at number) → Fails w (word_at number)
+  pub best : flow_fault q ≡ None → (IsAccepted (subject_of w q) → ⊥) → (number : ℕ) → number < 4 → IsFree w.program (word_at number) → Fails w (word_at number)
 
 -- why no word is taken: with each that is free the program is accepted, but not shown to be right
 abbrev pub IsChoiceFault : Wanted → LinkFault → Type 0
-IsChoiceFault w NoWord = (number : ℕ) → number < 64 → IsFree w.program (word_at number) → IsUnshown w (word_at number)
+IsChoiceFault w NoWord = (number : ℕ) → number < 4 → IsFree w.program (word_at number) → IsUnshown w (word_at number)
 IsChoiceFault w fault = IsLinkFault w.program w.offsets w.declared fault
 
 -- ---- the words below a number were tried, and none was taken

@@ -5,12 +5,12 @@ use Rattle.ebpf_insn.specs.declared.insn.Insn.{Insn}
 use Rattle.ebpf_insn.specs.Program.{insn_at}
 use Rattle.ebpf_link.specs.Apart.{Reaches, IsApart}
 
--- where a word of the stack begins, in bytes from r10, by its number from the lowest: -512, -504 and so on to -8
+-- where a word that is tried begins, in bytes from r10, by its number from the lowest: -512, -384, -256 or -128
 abbrev pub word_at : ℕ → ℤ
-word_at number = negsuc 511 +ℤ pos (8 * number)
+word_at number = negsuc 511 +ℤ pos (128 * number)
 
 abbrev pub IsWord : ℤ → Type 0
-IsWord word = (number : ℕ) × (number < 64) × (word ≡ word_at number)
+IsWord word = (number : ℕ) × (number < 4) × (word ≡ word_at number)
 
 -- what is at a slot is no load or store by r10 itself that touches the word
 abbrev pub IsFreeAt : List (Option Insn) → ℤ → ℕ → Type 0

@@ -17,8 +17,8 @@ use ebpf_state::kinds::KindRow;
 use ebpf_verify::decl::Decl;
 use std::alloc::Global;
 
-// How many words of eight bytes the stack has.
-const WORDS: usize = 64;
+// How many words of the stack are tried. The program is judged with each, so there are few.
+const WORDS: usize = 4;
 
 // What is given to be linked.
 #[derive(Drop)]
@@ -33,8 +33,8 @@ struct Given<'a> {
 /// The program with its data after a context of `declared` bytes, for a declaration whose context has the data too. `offsets` has an
 /// entry for each slot: the offset in the data whose address the 64-bit immediate there is to be, or none.
 ///
-/// The free words are tried from the lowest up, and the first is taken with which the linked program is accepted and its addresses are
-/// right. Where there is none, the program is linked with the first word with which the verifier refuses it, so that the caller
+/// Four words are tried from the lowest up, if they are free, and the first is taken with which the linked program is accepted and its
+/// addresses are right. Where there is none, the program is linked with the first word with which the verifier refuses it, so that the caller
 /// reports that refusal. Where the flow has a fault, such as a loop, it is linked with the first free word.
 ///
 /// # Errors
@@ -76,7 +76,7 @@ fn try_word(
     refused: &mut Option<Linked>,
 ) -> Result<Option<Linked>, LinkFault>
     requires rows { AreRows given.now.kinds.now }
-    requires few { number < 64 }
+    requires few { number < 4 }
     requires tried { IsTried (wanted_of given.now) number refused.old }
     ensures taken { IfOk result (λ found. IfSome found (λ l. IsLinkedBy (wanted_of given.now) l.word l.program)) }
     ensures tried { IfOk result (λ found. found ≡ None → IsTried (wanted_of given.now) (number + 1) refused.new) }
@@ -107,10 +107,10 @@ fn keep_first(kept: &mut Option<Linked>, linked: Linked)
     }
 }
 
-// Where a word begins, by its number from the lowest, in bytes from r10.
+// Where a word that is tried begins, by its number from the lowest, in bytes from r10.
 fn word_at(number: usize) -> i16
-    requires { number < 64 }
+    requires { number < 4 }
     ensures { result ≡ word_at number }
 {
-    -512 + 8 * number as i16
+    -512 + 128 * number as i16
 }

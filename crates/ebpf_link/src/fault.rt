@@ -22,7 +22,7 @@ pub enum LinkFault {
     /// The program has `MAX_SLOTS` slots already, and one is added.
     #[error("the program would have more than 4096 slots")]
     Slots,
-    /// The program may use each of the 64 words of the stack. Only [`crate::choice::linked`] says so.
+    /// The program may use each of the words of the stack that are tried. Only [`crate::choice::linked`] says so.
     #[error("no word of the stack is free for the context's pointer")]
     NoWord,
     /// An allocation failed.

@@ -1,6 +1,6 @@
 //! A function and its data as a program and the bytes after its context.
 
-ghost use Rattle.std.specs.Prelude.{◌≡◌, ◌+◌, ◌<◌, IfOk, IfErr, IfSome};
+ghost use Rattle.std.specs.Prelude.{◌≡◌, ◌+◌, ◌<◌, IfOk, IfErr, IfSome, length};
 ghost use Rattle.ebpf_object_file.specs.DataFunction.{HasUses};
 ghost use Rattle.ebpf_object_file.specs.DataParts.{HasParts};
 ghost use Rattle.ebpf_verify.specs.Verdict.{AreRows};
@@ -49,6 +49,7 @@ pub fn load(
     requires uses { HasUses file.now function.now.uses.items }
     ensures loaded { IfOk result (IsLoadedWith file.now function.now decl kinds.now) }
     ensures refused { IfErr result (IsLoadFault file.now function.now decl kinds.now) }
+    ensures declared { IfOk result (λ l. l.decl.context ≡ decl.context + length l.data.items) }
     ensures named { IfErr result (λ e. HasNames file.now e) }
 {
     let program = match decode(alloc, function.function.code) {

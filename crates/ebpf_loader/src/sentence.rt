@@ -28,8 +28,12 @@ pub fn write_sentence(text: &mut String, file: &[u8], fault: &LoadFault) -> Resu
     }
 }
 
-// Writes why a program isn't linked.
-fn write_unlinked(text: &mut String, fault: LinkFault) -> Result<(), AllocError>
+/// Writes after a text why a program isn't linked, without a newline; nothing, where its flow has a fault, which is a refusal of the program
+/// itself.
+///
+/// # Errors
+/// It fails only where an allocation fails, and some of the words may be written then.
+pub fn write_unlinked(text: &mut String, fault: LinkFault) -> Result<(), AllocError>
     ensures { OnOk result (string_bytes text.new ≡ string_bytes text.old ++ link_sentence fault) }
 {
     match fault {

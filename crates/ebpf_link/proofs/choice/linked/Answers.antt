@@ -6,5 +6,5 @@ use Rattle.ebpf_link.proofs.choice.linked.Goals as goal
 pub returns-clause-linked : goal.returns-clause-linked
 returns-clause-linked c =
     let w : Wanted = wanted c.args.program.now c.args.offsets.now c.args.declared c.args.decl c.args.kinds.now in
-    let all : c.loop-number.number ≡ 64 = omega (arith, c.loop-number-test.false) in
+    let all : c.loop-number.number ≡ 4 = omega (arith, c.loop-number-test.false) in
     chosen w c.loop-number.refused c.ok_or.result (subst (λ (n : ℕ). IsTried w n c.loop-number.refused) all c.loop-number.invariant.tried) c.ok_or.ensures.value
