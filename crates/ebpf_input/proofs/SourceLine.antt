@@ -1,10 +1,12 @@
 -- A line of C before what it holds for, and what is known of a function's lines.
-use Rattle.std.proofs.Common.{◌≡◌, ℕ, List, ◌++◌, Option, ap, ◌∙◌, append_assoc}
+use Rattle.std.proofs.Common.{◌≡◌, ℕ, List, ◌++◌, Option, ap, ◌∙◌, append_assoc, length, subst, sym, take}
+use Rattle.std.proofs.Math.Seq.{take-append_seam}
 use Rattle.std.specs.Option.{MatchOption}
 use Rattle.ebpf_command.specs.declared.format.Format.{Format}
 use Rattle.ebpf_object_file.specs.declared.function.Function.{Function}
 use Rattle.ebpf_object_file.specs.declared.lines.Line.{Line}
 use Rattle.ebpf_object_file.specs.declared.lines.Lines.{Lines}
+use Rattle.ebpf_object_file.specs.Shown.{AreHolding}
 use Rattle.ebpf_object_file.specs.Source.{AreLinesOf, HasNoLinesOf}
 use Rattle.ebpf_input.specs.SourceLine.{heading}
 
@@ -26,3 +28,10 @@ third_after before one two new a b wanted c first second same third =
 -- what is known of a function's lines
 abbrev pub LinesKnown : List ℕ → Function → Option Lines → Type 0
 LinesKnown file f r = MatchOption r (HasNoLinesOf file f.place.section) (λ l. AreLinesOf file f.place.section l)
+
+-- the lines that were written to the first n items hold, read as all n
+pub held_in : (l : Lines) (from n : ℕ) (written rest now : List (Option Line)) → AreHolding l from written → length written ≡ n
+    → now ≡ take n (written ++ rest) → AreHolding l from now
+held_in l from n written rest now are few read =
+    let cut : take n (written ++ rest) ≡ written = subst (λ (m : ℕ). take m (written ++ rest) ≡ written) few (take-append_seam written rest) in
+    subst (λ (xs : List (Option Line)). AreHolding l from xs) (sym (read ∙ cut)) are

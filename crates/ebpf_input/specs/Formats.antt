@@ -1,17 +1,22 @@
 -- The lines in a format: as text, or as objects of JSON.
-use Rattle.std.specs.Prelude.{ℕ, ◌++◌, List, [], codes, decimal}
+use Rattle.std.specs.Prelude.{ℕ, ◌++◌, List, [], codes, decimal, Option}
 use Rattle.ebpf_insn.specs.declared.insn.Insn.{Insn}
+use Rattle.ebpf_flow.specs.declared.fault.FlowCode.{FlowCode}
 use Rattle.ebpf_text.specs.Listing.{insn_text}
+use Rattle.ebpf_explain.specs.Reasons.{misled_in}
 use Rattle.ebpf_object_file.specs.declared.lines.Line.{Line}
 use Rattle.ebpf_object_file.specs.declared.lines.Lines.{Lines}
 use Rattle.ebpf_object_file.specs.Lines.{file_limit, text_limit, trimmed}
 use Rattle.ebpf_object_file.specs.Shown.{shown_of, place_row}
 use Rattle.ebpf_object_file.specs.Text.{text_at}
+use Rattle.ebpf_command.specs.declared.codes.RefusalCode.TheVariants.{Flow}
 use Rattle.ebpf_command.specs.declared.done.FaultCode.{FaultCode}
 use Rattle.ebpf_command.specs.declared.format.Format.{Format}
 use Rattle.ebpf_command.specs.declared.format.Format.TheVariants.{Text, Json}
+use Rattle.ebpf_command.specs.Codes.{refusal_name}
 use Rattle.ebpf_command.specs.Json.{quoted, fault_object, refused_object}
 use Rattle.ebpf_command.specs.Lines.{fault_line}
+use Rattle.ebpf_command.specs.Response.{Response, refused_response}
 use Rattle.ebpf_input.specs.Lines.{refused_line, accepted_line}
 
 abbrev pub accepted_object : ℕ → List ℕ
@@ -30,6 +35,10 @@ refused_in Json code slot = refused_object code slot []
 abbrev pub refused_why_in : Format → List ℕ → ℕ → List ℕ → List ℕ
 refused_why_in Text code slot why = refused_line code slot ++ why
 refused_why_in Json code slot why = refused_object code slot why
+
+-- an edge of a slot leads to no instruction
+abbrev pub misled_response : Format → List (Option Insn) → ℕ → FlowCode → Response
+misled_response format p slot code = refused_response (refused_why_in format (refusal_name (Flow code)) slot (misled_in p slot code))
 
 -- a fault with the line that says why
 abbrev pub fault_why_in : Format → FaultCode → ℕ → List ℕ → List ℕ

@@ -7,3 +7,5 @@ pub mod SourceLine
 pub mod ObjectText
 pub mod WhyNot
 pub mod Under
+pub mod DataRequest
+pub mod NoRequest

@@ -32,11 +32,14 @@ IsTaken name file bytes =
 abbrev pub IsTakenFault : List ℕ → List ℕ → ObjectFault → Type 0
 IsTakenFault name file e = (length file ≤ 1048576) × IsWantedFault file name e
 
--- the line of the fault, and its sentence
+-- the line of a fault by its code, and under it the line that says why
+abbrev pub fault_lines : Format → (code why : List ℕ) → List ℕ
+fault_lines Text code why = codes "fault " ++ (code ++ (codes " line 0\n" ++ why))
+fault_lines Json code why = codes "{\"fault\":\"" ++ (code ++ (codes "\",\"line\":0" ++ (why_member why ++ codes "}\n")))
+
+-- the line of an object file's fault, and its sentence
 abbrev pub object_fault_lines : Format → ObjectFault → List ℕ
-object_fault_lines Text e = codes "fault " ++ (object_code e ++ (codes " line 0\n  " ++ (object_sentence e ++ codes "\n")))
-object_fault_lines Json e =
-    codes "{\"fault\":\"" ++ (object_code e ++ (codes "\",\"line\":0" ++ (why_member (codes "  " ++ (object_sentence e ++ codes "\n")) ++ codes "}\n")))
+object_fault_lines format e = fault_lines format (object_code e) (codes "  " ++ (object_sentence e ++ codes "\n"))
 
 -- a line of C that holds at a slot, if there is one
 abbrev pub holding_in : Format → Option HoldingLine → List ℕ
@@ -56,27 +59,40 @@ pub record RespondsFault (format : Format) (file : List ℕ) (e : ObjectFault) (
   pub is_under : IsUnder format file e under
   pub told : response ≡ refused_response (object_fault_lines format e ++ under)
 
--- by a command's response to raw bytes
-abbrev pub RespondsObject : Format → Responding → List ℕ → Responding
-RespondsObject format Sends name file response =
+-- what a command says of a name and a file where the function is no program by itself
+abbrev pub Refusing : Type 1
+Refusing = (name file : List ℕ) → ObjectFault → Response → Type 0
+
+abbrev pub RespondsFaults : Format → Refusing
+RespondsFaults format name file e response = RespondsFault format file e response
+
+-- by a command's response to raw bytes, and what it says otherwise
+abbrev pub RespondsObjectOr : Refusing → Responding → List ℕ → Responding
+RespondsObjectOr Refuses Sends name file response =
     ((bytes : List ℕ) × IsTaken name file bytes × Sends bytes response)
-    ⊎ ((e : ObjectFault) × IsTakenFault name file e × RespondsFault format file e response)
+    ⊎ ((e : ObjectFault) × IsTakenFault name file e × Refuses name file e response)
+
+abbrev pub RespondsObject : Format → Responding → List ℕ → Responding
+RespondsObject format Sends = RespondsObjectOr (RespondsFaults format) Sends
 
 -- by what the input is: a program is responded to as it is
+abbrev pub RespondsInputOr : Refusing → Input → (Form → Responding) → Responding
+RespondsInputOr Refuses (Program form) Sends = Sends form
+RespondsInputOr Refuses (Object name) Sends = RespondsObjectOr Refuses (Sends Raw) name.now
+
 abbrev pub RespondsInput : Format → Input → (Form → Responding) → Responding
-RespondsInput format (Program form) Sends = Sends form
-RespondsInput format (Object name) Sends = RespondsObject format (Sends Raw) name.now
+RespondsInput format input Sends = RespondsInputOr (RespondsFaults format) input Sends
 
 -- a command that knows lines of C writes of a file without them what another does, which knows none
 pub record WritesAnswer (Sends : Responding) (input old new : Option (List ℕ)) (result : Result Done EngineFault) : Type 0 where
   pub response : Writes Sends input old new result
   pub beginning : WritesBeginning Sends input old new result
 
-abbrev pub WritesPlain : Format → Responding → List ℕ → (input old new : Option (List ℕ)) → Result Done EngineFault → Type 0
-WritesPlain format Sends name input old new result =
-    (file : List ℕ) → input ≡ Some file → HasNoTables file → WritesAnswer (RespondsObject format Sends name) input old new result
+abbrev pub WritesPlain : Refusing → Responding → List ℕ → (input old new : Option (List ℕ)) → Result Done EngineFault → Type 0
+WritesPlain Refuses Sends name input old new result =
+    (file : List ℕ) → input ≡ Some file → HasNoTables file → WritesAnswer (RespondsObjectOr Refuses Sends name) input old new result
 
 -- nothing is said of a program: it has no lines
-abbrev pub WritesInputPlain : Format → Responding → Input → (input old new : Option (List ℕ)) → Result Done EngineFault → Type 0
-WritesInputPlain format Sends (Program form) input old new result = Unit {0}
-WritesInputPlain format Sends (Object name) input old new result = WritesPlain format Sends name.now input old new result
+abbrev pub WritesInputPlain : Refusing → Responding → Input → (input old new : Option (List ℕ)) → Result Done EngineFault → Type 0
+WritesInputPlain Refuses Sends (Program form) input old new result = Unit {0}
+WritesInputPlain Refuses Sends (Object name) input old new result = WritesPlain Refuses Sends name.now input old new result

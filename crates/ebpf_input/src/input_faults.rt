@@ -5,7 +5,7 @@ ghost use Rattle.hex.specs.Hex.{is_hex_digit};
 ghost use Rattle.ebpf_command.specs.declared.codes.RefusalCode.TheVariants.{Decode};
 ghost use Rattle.ebpf_command.specs.Codes.{refusal_name};
 ghost use Rattle.ebpf_command.specs.Response.{refused_response};
-ghost use Rattle.ebpf_input.specs.Formats.{fault_why_in, refused_why_in};
+ghost use Rattle.ebpf_input.specs.Formats.{fault_why_in, misled_response, refused_why_in};
 ghost use Rattle.ebpf_input.specs.InputFaults.{part_name, may_stand, place_of_other, shown_byte, mending_of, other_byte};
 ghost use Rattle.ebpf_input.specs.InputFaults.{unread, is_object, unread_of, undecoded_sentence, slot_size, too_much, fault_words, fault_sentence};
 
@@ -19,7 +19,10 @@ use ebpf_command::done::FaultCode;
 use ebpf_command::format::Format;
 use ebpf_command::hex_text::hex_or_dash;
 use ebpf_explain::decode_sentence::write_decode_sentence;
+use ebpf_explain::reason::write_misled;
+use ebpf_flow::fault::FlowCode;
 use ebpf_insn::fault::DecodeCode;
+use ebpf_insn::program::Program;
 use ebpf_verify::decl::MAX_HELD;
 use std::alloc::{AllocError, Global};
 
@@ -67,6 +70,21 @@ pub fn answer_undecoded(
     let mut why = String::new(alloc);
     write_undecoded(&mut why, bytes, slot as usize, code)?;
     answer_refused_why(alloc, format, RefusalCode::Decode(code).name(), slot, &why)
+}
+
+/// The answer to a program of which an edge leads to no instruction. It fails only where an allocation fails.
+pub fn answer_misled(
+    alloc: Global,
+    format: Format,
+    program: &Program,
+    slot: u16,
+    code: FlowCode,
+) -> Result<Answer, AllocError>
+    ensures { IfOk result (λ answer. answer ≡ misled_response format program.now slot code) }
+{
+    let mut why = String::new(alloc);
+    write_misled(alloc, &mut why, program, slot as usize, code)?;
+    answer_refused_why(alloc, format, RefusalCode::Flow(code).name(), slot, &why)
 }
 
 // Writes after a text why an input or an option can't be used, as a line: which of them it is, what is there, and what is

@@ -3,7 +3,7 @@
 ghost use Rattle.std.specs.Prelude.{◌≡◌, ◌++◌, ℕ, List, IfOk, IfErr, OnOk, string_bytes};
 ghost use Rattle.ebpf_object_file.specs.declared.object_fault.ObjectFault.TheVariants as ObjectFault;
 ghost use Rattle.ebpf_command.specs.Response.{refused_response};
-ghost use Rattle.ebpf_input.specs.ObjectText.{IsTaken, IsTakenFault, IsUnder, RespondsFault, object_fault_lines};
+ghost use Rattle.ebpf_input.specs.ObjectText.{IsTaken, IsTakenFault, IsUnder, RespondsFault, fault_lines, object_fault_lines};
 
 use crate::source_line::write_place_in;
 use ebpf_command::answer::Answer;
@@ -93,13 +93,24 @@ fn object_fault_text(
 ) -> Result<String, AllocError>
     ensures { IfOk result (λ text. string_bytes text ≡ object_fault_lines format fault.entry) }
 {
-    let name = fault.code();
+    let why = format!(in alloc; "  {fault}\n")?;
+    fault_text(alloc, format, fault.code(), &why)
+}
+
+/// The line of a fault by its code, and under it the line that says why. It fails only where an allocation fails.
+pub(crate) fn fault_text(
+    alloc: Global,
+    format: Format,
+    code: &str,
+    why: &str,
+) -> Result<String, AllocError>
+    ensures { IfOk result (λ text. string_bytes text ≡ fault_lines format code.now why.now) }
+{
     match format {
-        Format::Text => format!(in alloc; "fault {name} line 0\n  {fault}\n"),
+        Format::Text => format!(in alloc; "fault {code} line 0\n{why}"),
         Format::Json => {
-            let why = format!(in alloc; "  {fault}\n")?;
-            let mut text = format!(in alloc; "{{\"fault\":\"{name}\",\"line\":0")?;
-            write_why(&mut text, &why)?;
+            let mut text = format!(in alloc; "{{\"fault\":\"{code}\",\"line\":0")?;
+            write_why(&mut text, why)?;
             text.push_str("}\n")?;
             Ok(text)
         }
