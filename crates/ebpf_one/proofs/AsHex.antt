@@ -16,7 +16,7 @@ use Rattle.ebpf_input.specs.declared.ask.Input.TheVariants.{Program, Object}
 use Rattle.ebpf_input.specs.declared.form.Form.{Form}
 use Rattle.ebpf_input.specs.declared.form.Form.TheVariants.{Hex, Raw}
 use Rattle.ebpf_input.specs.Asked.{Asked, asked_for, bytes_in, input_fault, fault_of}
-use Rattle.ebpf_input.specs.ObjectText.{RespondsInput}
+use Rattle.ebpf_input.specs.ObjectText.{Refusing, RespondsInputOr}
 use Rattle.ebpf_input.specs.ProgramText.{is_blank}
 use Rattle.ebpf_input.proofs.Digits.{not_above}
 use Rattle.ebpf_one.specs.Alike.{IsHexText, WritesAsHex, WritesInputAsHex}
@@ -88,10 +88,10 @@ writes_as_hex Sends alike form input old new result h hex bytes raw given is =
     of_bytes (Err fault) k = tt
 
 -- by what the input is
-pub input_as_hex : (format : Format) (Sends : Form → Responding) → AreAlike Sends → (what : Input) (input old new : Option (List ℕ)) (result : Result Done EngineFault)
-    → Writes (RespondsInput format what Sends) input old new result → WritesInputAsHex Sends what input old new result
-input_as_hex format Sends alike (Program form) input old new result h = writes_as_hex Sends alike form input old new result h
-input_as_hex format Sends alike (Object name) input old new result h = tt
+pub input_as_hex : (Refuses : Refusing) (Sends : Form → Responding) → AreAlike Sends → (what : Input) (input old new : Option (List ℕ)) (result : Result Done EngineFault)
+    → Writes (RespondsInputOr Refuses what Sends) input old new result → WritesInputAsHex Sends what input old new result
+input_as_hex Refuses Sends alike (Program form) input old new result h = writes_as_hex Sends alike form input old new result h
+input_as_hex Refuses Sends alike (Object name) input old new result h = tt
 
 pub list_as_hex : (format : Format) (what : Input) (lines : Bool) (input old new : Option (List ℕ)) (result : Result Done EngineFault)
     → Writes (ListsInput format what lines) input old new result → WritesInputAsHex (RespondsList format) what input old new result

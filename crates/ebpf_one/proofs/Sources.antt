@@ -18,6 +18,7 @@ use Rattle.ebpf_input.proofs.SourceLine.{LinesKnown, headed_row}
 use Rattle.ebpf_one.specs.Formats.{insn_in}
 use Rattle.ebpf_command.specs.Response.{Response}
 use Rattle.ebpf_command.proofs.Written.{CutsLong}
+use Rattle.ebpf_one.specs.DataListText.{ListsWithData}
 use Rattle.ebpf_one.specs.ListText.{RespondsList}
 use Rattle.ebpf_one.specs.SourceText.{sourced_below, SourcesDecoded, SourcesFunction, RespondsSource, ListsInput}
 use Rattle.ebpf_one.proofs.Responses.{list_cuts}
@@ -63,4 +64,4 @@ of_lines format file f r l response e known h = let are : AreLinesOf file f.plac
 pub lists_cuts : (format : Format) (input : Input) (lines : Bool) → CutsLong (ListsInput format input lines)
 lists_cuts format (Program form) lines = list_cuts format form
 lists_cuts format (Object name) true = source_cuts format name.now
-lists_cuts format (Object name) false = object_cuts format (RespondsList format Raw) (list_cuts format Raw) name.now
+lists_cuts format (Object name) false = object_cuts (ListsWithData format false) (RespondsList format Raw) (list_cuts format Raw) name.now

@@ -23,11 +23,14 @@ IsRunOf (Some nulls) context run = (r : Running) × (run ≡ Some r) × (r.nulls
 abbrev pub RunsAs : Format → Running → Subject → Response → Type 0
 RunsAs format run s response = RespondsRun format s run.context.items run.nulls response
 
+-- where the verifier refuses the program
+abbrev pub RefusesJudged : Format → Subject → Response → Type 0
+RefusesJudged format s response =
+    (slot : ℕ) × (code : VerifyCode) × (verdict s ≡ Some (slot, code)) × (response ≡ refused_response (refused_in format (verify_name code) slot))
+
 -- what the run did, or where the verifier refuses the program
 abbrev pub RunsJudged : Format → Running → Subject → Response → Type 0
-RunsJudged format run s response =
-    ((verdict s ≡ None) × RunsAs format run s response)
-    ⊎ ((slot : ℕ) × (code : VerifyCode) × (verdict s ≡ Some (slot, code)) × (response ≡ refused_response (refused_in format (verify_name code) slot)))
+RunsJudged format run s response = ((verdict s ≡ None) × RunsAs format run s response) ⊎ RefusesJudged format s response
 
 -- what is asked of a program before it is run
 abbrev pub IsDeclared : Decl → List KindRow → Forward → Type 0

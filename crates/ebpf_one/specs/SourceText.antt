@@ -22,9 +22,10 @@ use Rattle.ebpf_input.specs.declared.ask.Input.{Input}
 use Rattle.ebpf_input.specs.declared.ask.Input.TheVariants.{Program, Object}
 use Rattle.ebpf_input.specs.declared.form.Form.TheVariants.{Raw}
 use Rattle.ebpf_input.specs.Formats.{refused_in}
-use Rattle.ebpf_input.specs.ObjectText.{IsTakenFault, RespondsFault, RespondsObject, object_fault_lines}
+use Rattle.ebpf_input.specs.ObjectText.{IsTakenFault, RespondsObjectOr, object_fault_lines}
 use Rattle.ebpf_input.specs.SourceLine.{heading, held_before}
 use Rattle.ebpf_one.specs.Formats.{insn_in}
+use Rattle.ebpf_one.specs.DataListText.{ListsWithData}
 use Rattle.ebpf_one.specs.ListText.{RespondsList}
 
 abbrev pub slot_text : Format → Lines → List (Option Line) → List (Option Insn) → ℕ → List ℕ
@@ -54,15 +55,15 @@ SourcesFunction format file f response =
     ⊎ ((l : Lines) × AreLinesOf file f.place.section l × SourcesDecoded format (decode_fault f.code.now) f.code.now l f.place.from response)
     ⊎ ((e : FileFault) × IsLinesOfFault file f.place.section e × (response ≡ refused_response (object_fault_lines format (File e))))
 
--- the file is too long, which `list` says of it, or has the function that is asked for, or hasn't
+-- the file is too long, which `list` says of it, or has the function that is asked for, or that one is no program by itself
 abbrev pub RespondsSource : Format → List ℕ → Responding
 RespondsSource format name file response =
     ((1048576 < length file) × RespondsList format Raw file response)
     ⊎ ((length file ≤ 1048576) × (f : Function) × IsWanted file name f × SourcesFunction format file f response)
-    ⊎ ((e : ObjectFault) × IsTakenFault name file e × RespondsFault format file e response)
+    ⊎ ((e : ObjectFault) × IsTakenFault name file e × ListsWithData format true name file e response)
 
 -- the response of `list` by what the input is, and whether the lines of C are listed
 abbrev pub ListsInput : Format → Input → Bool → Responding
 ListsInput format (Program form) lines = RespondsList format form
 ListsInput format (Object name) true = RespondsSource format name.now
-ListsInput format (Object name) false = RespondsObject format (RespondsList format Raw) name.now
+ListsInput format (Object name) false = RespondsObjectOr (ListsWithData format false) (RespondsList format Raw) name.now

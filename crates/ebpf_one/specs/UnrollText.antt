@@ -9,6 +9,7 @@ use Rattle.ebpf_object_file.specs.declared.function.Function.{Function}
 use Rattle.ebpf_object_file.specs.declared.object_fault.ObjectFault.{ObjectFault}
 use Rattle.ebpf_object_file.specs.Function.{IsWanted}
 use Rattle.ebpf_state.specs.declared.kinds.KindRow.{KindRow}
+use Rattle.ebpf_state.specs.Kinds.{AreKinds}
 use Rattle.ebpf_verify.specs.declared.decl.Decl.{Decl}
 use Rattle.ebpf_forward.specs.declared.fault.ForwardFault.{ForwardFault}
 use Rattle.ebpf_forward.specs.declared.forward.Forward.{Forward}
@@ -28,29 +29,37 @@ use Rattle.ebpf_input.specs.declared.form.Form.{Form}
 use Rattle.ebpf_input.specs.declared.form.Form.TheVariants.{Raw}
 use Rattle.ebpf_input.specs.declared.under.InFile.{InFile}
 use Rattle.ebpf_input.specs.Asked.{Asked, AreGiven, asked_for, fault_of}
+use Rattle.ebpf_input.specs.declared.data_request.DataRequest.{DataRequest}
+use Rattle.ebpf_input.specs.DataRequest.{RespondsData, own_slot}
 use Rattle.ebpf_input.specs.Formats.{refused_why_in, fault_why_in}
 use Rattle.ebpf_input.specs.InputFaults.{undecoded_sentence, fault_sentence}
-use Rattle.ebpf_input.specs.ObjectText.{IsTakenFault, RespondsFault}
+use Rattle.ebpf_input.specs.NoRequest.{RespondsNoRequest}
+use Rattle.ebpf_input.specs.ObjectText.{IsTakenFault, Refusing}
 use Rattle.ebpf_input.specs.Under.{IsOver}
 use Rattle.ebpf_input.specs.WhyNot.{why_not_in}
 use Rattle.ebpf_one.specs.CopiesText.{SaysCopies}
+use Rattle.ebpf_one.specs.declared.linked.Link.{Link}
 use Rattle.ebpf_one.specs.declared.running.Running.{Running}
+use Rattle.ebpf_one.specs.declared.unroll.Wanted.{Wanted}
+use Rattle.ebpf_one.specs.LinkedText.{SendsLinked}
 use Rattle.ebpf_one.specs.RunText.{IsRunOf, RunsForward}
 
 -- ---- a program of which every jump leads forward is written, or run
 
-abbrev pub DoesForward : Format → Option Running → Decl → List KindRow → Forward → Response → Type 0
-DoesForward format None decl rows f response = SaysCopies format (program_of f) (copies_of f) response
-DoesForward format (Some run) decl rows f response = RunsForward format run decl rows f response
+-- or what is done with one that was linked with data
+abbrev pub DoesForward : Format → Option Link → Option Running → Decl → List KindRow → Forward → Response → Type 0
+DoesForward format None None decl rows f response = SaysCopies format (program_of f) (copies_of f) response
+DoesForward format None (Some run) decl rows f response = RunsForward format run decl rows f response
+DoesForward format (Some link) run decl rows f response = SendsLinked format run link decl rows f response
 
 -- ---- or why there is none
 
 -- Below, a slot is that of which is spoken, if it is one: the line of C that holds there is written too.
 
-pub record UnrollsWell (format : Format) (run : Option Running) (p : List (Option Insn)) (decl : Decl) (rows : List KindRow) (slot : Option ℕ) (response : Response) : Type 0 where
+pub record UnrollsWell (format : Format) (w : Wanted) (p : List (Option Insn)) (decl : Decl) (rows : List KindRow) (slot : Option ℕ) (response : Response) : Type 0 where
   pub made : Forward
   pub is : IsForward p decl rows made
-  pub does : DoesForward format run decl rows made response
+  pub does : DoesForward format w.link w.run decl rows made response
   pub unspoken : slot ≡ None
 
 pub record UnrollsNot (format : Format) (p : List (Option Insn)) (decl : Decl) (rows : List KindRow) (slot : Option ℕ) (response : Response) : Type 0 where
@@ -61,16 +70,16 @@ pub record UnrollsNot (format : Format) (p : List (Option Insn)) (decl : Decl) (
   pub of : slot ≡ slot_of why
   pub told : response ≡ refused_response (why_not_in format why)
 
-abbrev pub UnrollsProgram : Format → Option Running → List (Option Insn) → Decl → List KindRow → Option ℕ → Response → Type 0
-UnrollsProgram format run p decl rows slot response = UnrollsWell format run p decl rows slot response ⊎ UnrollsNot format p decl rows slot response
+abbrev pub UnrollsProgram : Format → Wanted → List (Option Insn) → Decl → List KindRow → Option ℕ → Response → Type 0
+UnrollsProgram format w p decl rows slot response = UnrollsWell format w p decl rows slot response ⊎ UnrollsNot format p decl rows slot response
 
 -- bytes are refused as no program, or are the program that they encode
-abbrev pub UnrollsDecoded : Format → Option Running → Option (ℕ × DecodeCode) → List ℕ → Decl → List KindRow → Option ℕ → Response → Type 0
-UnrollsDecoded format run (Some refusal) bytes decl rows slot response =
+abbrev pub UnrollsDecoded : Format → Wanted → Option (ℕ × DecodeCode) → List ℕ → Decl → List KindRow → Option ℕ → Response → Type 0
+UnrollsDecoded format w (Some refusal) bytes decl rows slot response =
     (slot ≡ Some refusal.0)
     × (response ≡ refused_response (refused_why_in format (refusal_name (Decode refusal.1)) refusal.0 (undecoded_sentence bytes refusal.0 refusal.1)))
-UnrollsDecoded format run None bytes decl rows slot response =
-    (p : List (Option Insn)) × IsProgram bytes p × UnrollsProgram format run p decl rows slot response
+UnrollsDecoded format w None bytes decl rows slot response =
+    (p : List (Option Insn)) × IsProgram bytes p × UnrollsProgram format w p decl rows slot response
 
 -- ---- by what is asked
 
@@ -83,7 +92,7 @@ pub record UnrollsBytes (format : Format) (nulls : Option Bool) (function : Opti
   pub runs : IsRunOf nulls a.context run
   pub slot : Option ℕ
   pub said : Response
-  pub is : UnrollsDecoded format run (decode_fault a.bytes) a.bytes decl rows slot said
+  pub is : UnrollsDecoded format (record { run = run; link = None }) (decode_fault a.bytes) a.bytes decl rows slot said
   pub over : IsOver format function slot said response
 
 -- the input or an option can't be used, and why, or bytes are asked for
@@ -102,12 +111,33 @@ abbrev pub UnrollsFunction : Ask → Option Bool → List ℕ → Function → R
 UnrollsFunction ask nulls file f response =
     (function : InFile) × (function.file.now ≡ file) × (function.place ≡ f.place) × UnrollsTo ask nulls (Some function) Raw f.code.now response
 
--- the file is too long, which is said of it, or has the function that is asked for, or hasn't
+-- The response to a function that was linked with data of its file: what is said of its program, and the line of C of the function's own slot.
+pub record UnrollsLinked (format : Format) (nulls : Option Bool) (file : List ℕ) (r : DataRequest) (response : Response) : Type 0 where
+  pub rows : List KindRow
+  pub kinds : AreKinds rows
+  pub run : Option Running
+  pub runs : IsRunOf nulls r.request.context.items run
+  pub link : Link
+  pub after : link.bytes.items ≡ r.«data».items
+  pub word : link.word ≡ r.word
+  pub slot : Option ℕ
+  pub said : Response
+  pub is : UnrollsDecoded format (record { run = run; link = Some link }) (decode_fault r.request.bytes.items) r.request.bytes.items r.request.decl rows slot said
+  pub function : InFile
+  pub in_file : function.file.now ≡ file
+  pub in_place : function.place ≡ r.function.place
+  pub over : IsOver format (Some function) (own_slot slot) said response
+
+-- the response to a function that reads data of its file
+abbrev pub UnrollsWithData : Ask → Option Bool → Refusing
+UnrollsWithData ask nulls name file = RespondsData ask (UnrollsLinked ask.format nulls file) (RespondsNoRequest ask) name file
+
+-- the file is too long, which is said of it, or has the function that is asked for, or it is one that reads data, or has none
 abbrev pub UnrollsObject : Ask → Option Bool → List ℕ → Responding
 UnrollsObject ask nulls name file response =
     ((1048576 < length file) × UnrollsTo ask nulls None Raw file response)
     ⊎ ((length file ≤ 1048576) × (f : Function) × IsWanted file name f × UnrollsFunction ask nulls file f response)
-    ⊎ ((e : ObjectFault) × IsTakenFault name file e × RespondsFault ask.format file e response)
+    ⊎ ((e : ObjectFault) × IsTakenFault name file e × UnrollsWithData ask nulls name file e response)
 
 abbrev pub UnrollsBy : Ask → Option Bool → Input → Responding
 UnrollsBy ask nulls (Program form) = UnrollsTo ask nulls None form

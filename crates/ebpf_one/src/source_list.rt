@@ -7,6 +7,7 @@ ghost use Rattle.ebpf_text.specs.Listing.{line_at};
 ghost use Rattle.ebpf_one.specs.Formats.{insn_in};
 ghost use Rattle.ebpf_one.specs.SourceText.{slot_text, sourced_below, IsSourced, SourcesDecoded, SourcesFunction, RespondsSource};
 
+use crate::data_list::list_with_data;
 use crate::json_text::write_object_at;
 use crate::list::list_input;
 use ebpf_command::answer::Answer;
@@ -16,7 +17,7 @@ use ebpf_command::format::Format;
 use ebpf_command::input::MAX_INPUT;
 use ebpf_input::form::Form;
 use ebpf_input::in_format::answer_refused;
-use ebpf_input::object::{answer_file_fault, answer_object_fault};
+use ebpf_input::object::answer_file_fault;
 use ebpf_input::source_line::{held_at, held_before, write_heading};
 use ebpf_insn::decode::decode;
 use ebpf_insn::fault::DecodeFault;
@@ -27,8 +28,8 @@ use ebpf_object_file::source::lines_of;
 use ebpf_text::line::line;
 use std::alloc::{AllocError, Global};
 
-// Writes the line of the instruction at a slot, if one begins there.
-fn write_insn_in(
+/// Writes the line of the instruction at a slot, if one begins there. It fails only where an allocation fails.
+pub(crate) fn write_insn_in(
     alloc: Global,
     format: Format,
     text: &mut String,
@@ -149,6 +150,6 @@ pub(crate) fn source_input(
     }
     match wanted_function(file, name.as_bytes()) {
         Ok(function) => source_function(alloc, format, file, function),
-        Err(fault) => answer_object_fault(alloc, format, file, fault),
+        Err(_) => list_with_data(alloc, format, file, name, true),
     }
 }

@@ -4,12 +4,14 @@ ghost use Rattle.std.specs.Prelude.{◌≡◌, None, Some, IfOk, IfSome, length}
 ghost use Rattle.ebpf_insn.specs.Decoding.{decode_fault};
 ghost use Rattle.ebpf_state.specs.Kinds.{AreKinds};
 ghost use Rattle.ebpf_command.specs.Writing.{Performs};
+ghost use Rattle.ebpf_object_file.specs.declared.object_fault.ObjectFault.{ObjectFault};
 ghost use Rattle.ebpf_one.specs.RunText.{IsDeclared};
 ghost use Rattle.ebpf_one.specs.UnrollText.{DoesForward, UnrollsInput, UnrollsObject, UnrollsTo, UnrollsBytes, UnrollsDecoded};
-ghost use Rattle.ebpf_one.specs.UnrollText.{UnrollsProgram};
+ghost use Rattle.ebpf_one.specs.UnrollText.{UnrollsLinked, UnrollsProgram, UnrollsWithData};
 
 use crate::copies_text::answer_copies;
-use crate::running::{Running, run_forward};
+use crate::linked::{Link, send_linked};
+use crate::running::{Running, run_forward, run_of};
 use ebpf_command::answer::{Answer, write_answer};
 use ebpf_command::done::{Done, EngineFault, Stop};
 use ebpf_command::format::Format;
@@ -17,9 +19,10 @@ use ebpf_command::input::{MAX_INPUT, read_input};
 use ebpf_forward::forward::{Forward, lead_forward};
 use ebpf_forward::why_not::why_not;
 use ebpf_input::ask::{Ask, Input};
+use ebpf_input::data_request::{DataRequest, own_slot, requested_with_data};
 use ebpf_input::form::Form;
 use ebpf_input::input_faults::{answer_undecoded, answer_unused};
-use ebpf_input::object::answer_object_fault;
+use ebpf_input::no_request::answer_no_request;
 use ebpf_input::request::{Request, requested};
 use ebpf_input::under::{InFile, SlotAnswer, with_line};
 use ebpf_input::why_not::answer_why_not;
@@ -32,8 +35,20 @@ use ebpf_verify::decl::Decl;
 use std::alloc::{AllocError, Global};
 use std::io::{Read, Write};
 
+/// What is wanted of a program of which every jump leads forward.
+#[derive(Drop)]
+pub(crate) struct Wanted {
+    /// Its run, if it isn't to be written.
+    pub(crate) run: Option<Running>,
+    /// What it was linked with, if it reads data of its file.
+    pub(crate) link: Option<Link>,
+}
+
 /// Reads a program and writes it in a format as hex with its loops unrolled, so that every jump leads forward; one without loops as
 /// [`crate::lay_out::lay_out`] does. Or it writes why the program can't be unrolled, with the line of C of an object file.
+///
+/// A function that reads data of its object file is linked with it first. Then the data is written too, as hex; and the program is refused if the
+/// verifier refuses it, or if it isn't certain to keep the context's pointer in the word of the stack that was taken for it.
 ///
 /// # Errors
 /// `Input` where a read failed and `NoMemory` where an allocation failed: nothing was written then. `Output` where a write
@@ -51,7 +66,7 @@ pub fn unroll<R: Read, W: Write>(
 }
 
 /// Reads a program, unrolls its loops as [`unroll`] does, runs it on a context and writes what it did as [`crate::one::one`] does. Or it writes
-/// why the program can't be unrolled, as [`unroll`] does, or is refused.
+/// why the program can't be unrolled, as [`unroll`] does, or is refused. A function that reads data of its object file is linked with it first.
 ///
 /// # Errors
 /// `Input` where a read failed and `NoMemory` where an allocation failed: nothing was written then. `Output` where a write
@@ -125,8 +140,59 @@ fn unroll_object(
                 Some(InFile { file, place }),
             )
         }
-        Err(fault) => answer_object_fault(alloc, ask.format, file, fault),
+        Err(_) => unroll_with_data(alloc, ask, name, file, nulls),
     }
+}
+
+// The response to a function that is no program by itself: it is linked with the data that it reads.
+fn unroll_with_data(
+    alloc: Global,
+    ask: &Ask<'_>,
+    name: &str,
+    file: &[u8],
+    nulls: Option<bool>,
+) -> Result<Answer, AllocError>
+    ensures { IfOk result (λ response. (e : ObjectFault) → UnrollsWithData ask.now nulls name.now file.now e response) }
+{
+    match requested_with_data(alloc, ask, name, file) {
+        Ok(linked) => unroll_linked(alloc, ask.format, file, linked, nulls),
+        Err(fault) => answer_no_request(alloc, ask, file, fault),
+    }
+}
+
+// The response to a function that was linked, with the line of C. Its program has one slot more than it.
+fn unroll_linked(
+    alloc: Global,
+    format: Format,
+    file: &[u8],
+    linked: DataRequest<'_>,
+    nulls: Option<bool>,
+) -> Result<Answer, AllocError>
+    requires { linked.request.decl.context ≡ length linked.request.context.items }
+    ensures { IfOk result (UnrollsLinked format nulls file.now linked.entry) }
+{
+    let DataRequest {
+        function,
+        request,
+        data,
+        word,
+    } = linked;
+    let Request {
+        bytes,
+        context,
+        decl,
+    } = request;
+    let run = run_of(context, nulls);
+    let link = Some(Link { bytes: data, word });
+    let said = unroll_bytes(alloc, format, &bytes, decl, &kinds(), Wanted { run, link })?;
+    let SlotAnswer { answer, slot } = said;
+    let slot = own_slot(slot);
+    let place = function.place;
+    with_line(
+        format,
+        SlotAnswer { answer, slot },
+        Some(InFile { file, place }),
+    )
 }
 
 // The response to a program in a form.
@@ -164,11 +230,9 @@ fn unroll_request(
         context,
         decl,
     } = request;
-    let run = match nulls {
-        Some(nulls) => Some(Running { context, nulls }),
-        None => None,
-    };
-    let said = unroll_bytes(alloc, format, &bytes, decl, &kinds(), run)?;
+    let run = run_of(context, nulls);
+    let link = None;
+    let said = unroll_bytes(alloc, format, &bytes, decl, &kinds(), Wanted { run, link })?;
     with_line(format, said, function)
 }
 
@@ -179,14 +243,14 @@ fn unroll_bytes(
     bytes: &[u8],
     decl: Decl,
     kinds: &[KindRow],
-    run: Option<Running>,
+    wanted: Wanted,
 ) -> Result<SlotAnswer, AllocError>
     requires kinds { AreKinds kinds.now }
-    requires declared { IfSome run (λ r. decl.context ≡ length r.context.items) }
-    ensures { IfOk result (λ said. UnrollsDecoded format run (decode_fault bytes.now) bytes.now decl kinds.now said.slot said.answer) }
+    requires declared { IfSome wanted.run (λ r. decl.context ≡ length r.context.items) }
+    ensures { IfOk result (λ said. UnrollsDecoded format wanted (decode_fault bytes.now) bytes.now decl kinds.now said.slot said.answer) }
 {
     match decode(alloc, bytes) {
-        Ok(program) => unroll_program(alloc, format, &program, decl, kinds, run),
+        Ok(program) => unroll_program(alloc, format, &program, decl, kinds, wanted),
         Err(DecodeFault::Bad { slot, code }) => {
             let answer = answer_undecoded(alloc, format, bytes, slot, code)?;
             Ok(SlotAnswer {
@@ -205,15 +269,15 @@ fn unroll_program(
     program: &Program,
     decl: Decl,
     kinds: &[KindRow],
-    run: Option<Running>,
+    wanted: Wanted,
 ) -> Result<SlotAnswer, AllocError>
     requires kinds { AreKinds kinds.now }
-    requires declared { IfSome run (λ r. decl.context ≡ length r.context.items) }
-    ensures { IfOk result (λ said. UnrollsProgram format run program.now decl kinds.now said.slot said.answer) }
+    requires declared { IfSome wanted.run (λ r. decl.context ≡ length r.context.items) }
+    ensures { IfOk result (λ said. UnrollsProgram format wanted program.now decl kinds.now said.slot said.answer) }
 {
     match lead_forward(alloc, program, decl, kinds) {
         Ok(made) => {
-            let answer = use_forward(alloc, format, made, decl, kinds, run)?;
+            let answer = use_forward(alloc, format, made, decl, kinds, wanted)?;
             Ok(SlotAnswer { answer, slot: None })
         }
         Err(fault) => {
@@ -225,22 +289,24 @@ fn unroll_program(
     }
 }
 
-// The program that was made of it, written or run.
+// The program that was made of it, as is wanted of it.
 fn use_forward(
     alloc: Global,
     format: Format,
     made: Forward,
     decl: Decl,
     kinds: &[KindRow],
-    run: Option<Running>,
+    wanted: Wanted,
 ) -> Result<Answer, AllocError>
     requires kinds { AreKinds kinds.now }
-    requires declared { IfSome run (λ r. decl.context ≡ length r.context.items) }
+    requires declared { IfSome wanted.run (λ r. decl.context ≡ length r.context.items) }
     requires made { IsDeclared decl kinds.now made }
-    ensures { IfOk result (DoesForward format run decl kinds.now made) }
+    ensures { IfOk result (DoesForward format wanted.link wanted.run decl kinds.now made) }
 {
-    match run {
-        Some(run) => run_forward(alloc, format, made, decl, kinds, run),
-        None => answer_copies(alloc, format, made.program(), made.of()),
+    let Wanted { run, link } = wanted;
+    match (link, run) {
+        (Some(link), run) => send_linked(alloc, format, made, decl, kinds, run, link),
+        (None, Some(run)) => run_forward(alloc, format, made, decl, kinds, run),
+        (None, None) => answer_copies(alloc, format, made.program(), made.of()),
     }
 }

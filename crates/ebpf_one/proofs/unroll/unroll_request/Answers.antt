@@ -1,20 +1,14 @@
-use Rattle.std.proofs.Common.{ℕ, List, refl, subst}
+use Rattle.std.proofs.Common.{ℕ, List, None, refl, subst}
 use Rattle.std.proofs.lemmas.Result.{IfOk-weaker}
 use Rattle.ebpf_insn.specs.Decoding.{decode_fault}
-use Rattle.ebpf_one.specs.RunText.{IsRunOf}
 use Rattle.ebpf_one.specs.UnrollText.{UnrollsDecoded}
 use Rattle.ebpf_one.proofs.unroll.unroll_request.Goals as goal
-use Rattle.ebpf_one.proofs.unroll.unroll_request.Goals.{in-Some, in-None}
 
 pub returns : goal.returns
 returns c =
     let said = c.in_ok-said.said in
-    let run = c.match-nulls.run in
-    let runs : IsRunOf c.args.nulls c.args.request.context.items run = elim c.match-nulls.branch [
-      | in-Some w ↦ rw (w.in-Some.is) (record { context = c.args.request.context; nulls = w.in-Some.nulls }, w.run-is, refl, refl)
-      | in-None w ↦ rw (w.in-None.is) w.run-is
-    ] in
-    let is = subst (λ (bytes : List ℕ). UnrollsDecoded c.args.format run (decode_fault bytes) bytes c.args.request.decl c.kinds.result said.slot said.answer)
+    let run = c.run_of-run.result in
+    let is = subst (λ (bytes : List ℕ). UnrollsDecoded c.args.format (record { run = run; link = None }) (decode_fault bytes) bytes c.args.request.decl c.kinds.result said.slot said.answer)
     c.deref.ensures.value c.in_ok-said.ensures in
     IfOk-weaker c.with_line.result _ _
     (λ response h. record {
@@ -22,7 +16,7 @@ returns c =
       rows = c.kinds.result;
       given = record { context = c.requires; held = refl; kinds = c.kinds.ensures };
       run = run;
-      runs = runs;
+      runs = c.run_of-run.ensures;
       slot = said.slot;
       said = said.answer;
       is = is;
