@@ -1,3 +1,4 @@
 pub mod Responses
 pub mod Explanations
 pub mod Plain
+pub mod Linked

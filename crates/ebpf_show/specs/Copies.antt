@@ -1,10 +1,11 @@
--- Which slot of another program a slot copies, as a row.
-use Rattle.std.specs.Prelude.{ℕ, suc, ◌==◌, ◌++◌, Bool, false, List, [], codes, decimal, filter, length, take, Option, Some, None, slice_index_or}
+-- Which slot of another program a slot copies, as a row, and what is at that slot.
+use Rattle.std.specs.Prelude.{ℕ, suc, ◌==◌, ◌++◌, Bool, false, List, [], ◌∷◌, codes, decimal, filter, length, map, take, Option, Some, None, slice_index_or}
+use Rattle.std.specs.List.{range_with_len}
 use Rattle.ebpf_insn.specs.declared.insn.Insn.{Insn}
-use Rattle.ebpf_object_file.specs.declared.lines.Line.{Line}
 use Rattle.ebpf_command.specs.declared.format.Format.{Format}
 use Rattle.ebpf_command.specs.declared.format.Format.TheVariants.{Text, Json}
 use Rattle.ebpf_show.specs.declared.copies.Copies.{Copies}
+use Rattle.ebpf_show.specs.declared.copies.TheConstants.{MOST_SLOTS}
 
 -- whether a slot is copied, and how often
 abbrev pub is_of : ℕ → Option ℕ → Bool
@@ -36,7 +37,11 @@ copy_row_if format None slot i = []
 copy_row_if format (Some c) slot None = []
 copy_row_if format (Some c) slot (Some i) = copy_row format c.of.now slot
 
--- the line of C that holds at a slot that is copied
-abbrev pub line_at : List (Option Line) → Option ℕ → Option Line
-line_at holding None = None
-line_at holding (Some slot) = slice_index_or holding slot None
+-- what is at a slot that is copied, such as the line of C that holds there
+abbrev pub item_at : {X : Type 0} → List (Option X) → Option ℕ → Option X
+item_at items None = None
+item_at items (Some slot) = slice_index_or items slot None
+
+-- a program that was linked with its data has one slot in front, and then those of the function
+abbrev pub linked_slots : List (Option ℕ)
+linked_slots = None ∷ map Some (range_with_len 0 MOST_SLOTS)

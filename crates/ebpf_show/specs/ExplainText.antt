@@ -1,16 +1,14 @@
 -- What `explain` writes of a program: what is known before each instruction that the verifier looks at, and then the verdict. Where the
 -- lines of C are known, that of a refused slot is under the reason.
 use Rattle.std.specs.Prelude.{ℕ, ◌++◌, List, length, Option, Some, None}
-use Rattle.ebpf_insn.specs.declared.insn.Insn.{Insn}
 use Rattle.ebpf_insn.specs.Program.{instructions}
-use Rattle.ebpf_flow.specs.declared.fault.FlowCode.{FlowCode}
 use Rattle.ebpf_verify.specs.declared.entry.EntryState.{EntryState}
 use Rattle.ebpf_verify.specs.declared.fault.VerifyCode.{VerifyCode}
 use Rattle.ebpf_verify.specs.Subject.{Subject}
 use Rattle.ebpf_verify.specs.Traces.{looked_at, entries_below}
 use Rattle.ebpf_verify.specs.Verdict.{verdict}
-use Rattle.ebpf_explain.specs.Reasons.{misled_in, reason_at}
-use Rattle.ebpf_command.specs.declared.codes.RefusalCode.TheVariants.{Flow, Verify}
+use Rattle.ebpf_explain.specs.Reasons.{reason_at}
+use Rattle.ebpf_command.specs.declared.codes.RefusalCode.TheVariants.{Verify}
 use Rattle.ebpf_command.specs.declared.format.Format.{Format}
 use Rattle.ebpf_command.specs.Codes.{refusal_name}
 use Rattle.ebpf_command.specs.Response.{Response, refused_response, clean_response}
@@ -28,6 +26,3 @@ explained_by format beside None s entries = clean_response (listed_lines format 
 -- by the entries that the verifier looks at
 abbrev pub explained : Format → Beside → Subject → Response
 explained format beside s = explained_by format beside (verdict s) s (entries_below s.program (looked_at (verdict s) (length s.program)))
-
-abbrev pub misled_response : Format → List (Option Insn) → ℕ → FlowCode → Response
-misled_response format p slot code = refused_response (refused_why_in format (refusal_name (Flow code)) slot (misled_in p slot code))

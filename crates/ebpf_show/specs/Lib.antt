@@ -5,3 +5,4 @@ pub mod ExplainText
 pub mod GraphText
 pub mod Shown
 pub mod ExplainObject
+pub mod GraphInput

@@ -14,7 +14,8 @@ use Rattle.ebpf_verify.specs.Subject.{Subject}
 use Rattle.ebpf_forward.specs.declared.fault.ForwardFault.{ForwardFault}
 use Rattle.ebpf_forward.specs.declared.forward.Forward.{Forward}
 use Rattle.ebpf_forward.specs.declared.why_not.WhyNot.{WhyNot}
-use Rattle.ebpf_forward.specs.Forward.{IsForward, IsForwardFault, copies_of, program_of}
+use Rattle.ebpf_forward.specs.Forward.{IsForward, IsForwardFault, program_of}
+use Rattle.ebpf_forward.specs.Forward as forward
 use Rattle.ebpf_forward.specs.WhyNot.{SaysWhyNot, slot_of}
 use Rattle.ebpf_command.specs.declared.codes.RefusalCode.TheVariants.{Decode}
 use Rattle.ebpf_command.specs.declared.done.FaultCode.{FaultCode}
@@ -25,7 +26,7 @@ use Rattle.ebpf_command.specs.Response.{Response, refused_response}
 use Rattle.ebpf_command.specs.Writing.{Responding}
 use Rattle.ebpf_input.specs.declared.form.Form.{Form}
 use Rattle.ebpf_input.specs.Asked.{Asked, AreGiven, asked_for, fault_of}
-use Rattle.ebpf_input.specs.Formats.{refused_why_in, fault_why_in}
+use Rattle.ebpf_input.specs.Formats.{misled_response, refused_why_in, fault_why_in}
 use Rattle.ebpf_input.specs.InputFaults.{undecoded_sentence, fault_sentence}
 use Rattle.ebpf_input.specs.WhyNot.{why_not_in}
 use Rattle.ebpf_show.specs.declared.copies.Copies.{Copies}
@@ -33,8 +34,8 @@ use Rattle.ebpf_show.specs.declared.shown.Shown.{Shown}
 use Rattle.ebpf_show.specs.declared.shown.Shown.TheVariants.{States, Graph}
 use Rattle.ebpf_show.specs.declared.sourced.Beside.{Beside}
 use Rattle.ebpf_show.specs.declared.sourced.Sourced.{Sourced}
-use Rattle.ebpf_show.specs.Copies.{line_at}
-use Rattle.ebpf_show.specs.ExplainText.{explained, misled_response}
+use Rattle.ebpf_show.specs.Copies.{item_at}
+use Rattle.ebpf_show.specs.ExplainText.{explained}
 use Rattle.ebpf_show.specs.GraphText.{graphed}
 use Rattle.ebpf_show.specs.Sourced.{with_line}
 
@@ -46,6 +47,11 @@ format_of (Graph states) = Text
 abbrev pub source_of : Shown → Option Sourced
 source_of (States format beside) = beside.source
 source_of (Graph states) = None
+
+-- the slots of another program that are copied, if any
+abbrev pub copies_of : Shown → Option Copies
+copies_of (States format beside) = beside.copies
+copies_of (Graph states) = None
 
 -- what is shown of a program
 abbrev pub shown_of : Shown → Subject → Response
@@ -75,25 +81,32 @@ IsHeldSource holding (Some old) source =
 
 abbrev pub AreCopiedOf : List (Option ℕ) → Option Sourced → List (Option Line) → Type 0
 AreCopiedOf of None holding = Unit {0}
-AreCopiedOf of (Some old) holding = holding ≡ map (line_at old.holding.now) of
+AreCopiedOf of (Some old) holding = holding ≡ map (item_at old.holding.now) of
 
 abbrev pub AreCopiedLines : List (Option ℕ) → Shown → List (Option Line) → Type 0
 AreCopiedLines of shown = AreCopiedOf of (source_of shown)
 
-abbrev pub IsCopiedSource : List (Option ℕ) → Option Sourced → Option Sourced → Type 0
-IsCopiedSource of old new = (holding : List (Option Line)) × AreCopiedOf of old holding × IsHeldSource holding old new
+-- beside it are these slots, and these lines of C
+abbrev pub HasBeside : List (Option ℕ) → List (Option Line) → Shown → Shown → Type 0
+HasBeside of holding (States format beside) new =
+    (b : Beside) × (c : Copies) × (new ≡ States format b) × IsHeldSource holding beside.source b.source × (b.copies ≡ Some c) × (c.of.now ≡ of)
+HasBeside of holding (Graph states) new = new ≡ Graph states
+
+-- the slots that are named: where what is shown copies slots too, those which the copied ones copy
+abbrev pub first_slots : Option Copies → List (Option ℕ) → List (Option ℕ)
+first_slots None of = of
+first_slots (Some c) of = map (item_at c.of.now) of
 
 abbrev pub IsCopiedShown : List (Option ℕ) → Shown → Shown → Type 0
-IsCopiedShown of (States format beside) new =
-    (b : Beside) × (c : Copies) × (new ≡ States format b) × IsCopiedSource of beside.source b.source × (b.copies ≡ Some c) × (c.of.now ≡ of)
-IsCopiedShown of (Graph states) new = new ≡ Graph states
+IsCopiedShown of shown new =
+    (holding : List (Option Line)) × AreCopiedLines of shown holding × HasBeside (first_slots (copies_of shown) of) holding shown new
 
 -- the program that was made is shown as its bytes are
 pub record ShowsMade (shown : Shown) (decl : Decl) (rows : List KindRow) (f : Forward) (response : Response) : Type 0 where
   pub bytes : List ℕ
   pub is_program : IsProgram bytes (program_of f)
   pub copied : Shown
-  pub is_copied : IsCopiedShown (copies_of f) shown copied
+  pub is_copied : IsCopiedShown (forward.copies_of f) shown copied
   pub told : ShowsWith copied bytes decl rows response
 
 -- the line under what is said of a slot
@@ -140,8 +153,11 @@ ShowsTo unroll shown form context held input response = ShowsAsked unroll shown 
 
 -- that of `explain`, with the lines of C and without, and that of `graph`, by whether the states are asked for; of the program as it is, or
 -- of one of which every jump leads forward
+abbrev pub states_of : Format → Option Sourced → Shown
+states_of format source = States format (record { source = source; copies = None })
+
 abbrev pub ExplainsWith : Format → Bool → Option Sourced → Form → List ℕ → ℕ → Responding
-ExplainsWith format unroll source = ShowsTo unroll (States format (record { source = source; copies = None }))
+ExplainsWith format unroll source = ShowsTo unroll (states_of format source)
 
 abbrev pub ExplainsTo : Format → Bool → Form → List ℕ → ℕ → Responding
 ExplainsTo format unroll = ExplainsWith format unroll None

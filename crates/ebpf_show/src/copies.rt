@@ -1,14 +1,15 @@
-//! Which slot of another program a slot copies, as a row.
+//! Which slot of another program a slot copies, as a row, and what is at that slot.
 
 ghost use Rattle.std.specs.Prelude.{◌≡◌, ◌++◌, None, IfOk, OnOk, map, slice_index_or, string_bytes, suc, take};
 ghost use Rattle.ebpf_insn.specs.Program.{insn_at};
-ghost use Rattle.ebpf_show.specs.Copies.{added_row, copy_row, copy_row_if, is_of, line_at, visit_row, visit_of};
+ghost use Rattle.ebpf_show.specs.Copies.{added_row, copy_row, copy_row_if, is_of, item_at, linked_slots, visit_row, visit_of};
 
 use ebpf_command::format::Format;
-use ebpf_input::source_line::held_at;
 use ebpf_insn::program::Program;
-use ebpf_object_file::lines::Line;
 use std::alloc::{AllocError, Global};
+
+// The most slots that a program may have.
+const MOST_SLOTS: u16 = 4096;
 
 /// Of each slot of a program the slot of another one that it copies, if it does.
 #[derive(Clone, Copy)]
@@ -41,14 +42,14 @@ fn write_copy(
 ) -> Result<(), AllocError>
     ensures { OnOk result (string_bytes text.new ≡ string_bytes text.old ++ copy_row format of.now slot) }
 {
-    match copied_at(of, slot) {
+    match slot_of(of, slot) {
         Some(copied) => write_visit(format, text, copied, visit_of(up_to(of, slot), copied)),
         None => write_added(format, text),
     }
 }
 
 // The slot that a slot copies.
-fn copied_at(of: &[Option<u16>], slot: usize) -> Option<u16>
+fn slot_of(of: &[Option<u16>], slot: usize) -> Option<u16>
     ensures { result ≡ slice_index_or of.now slot None }
 {
     if slot < of.len() { of[slot] } else { None }
@@ -104,28 +105,41 @@ fn is_of(copied: Option<u16>, slot: u16) -> bool
     }
 }
 
-/// The line of C that holds at each slot of a program that copies slots: that of the slot that it copies. It fails only where an allocation
-/// fails.
-pub(crate) fn copied_lines(
+/// Of each slot of a program that copies slots what is at the slot that it copies: the line of C that holds there, or the slot of a third
+/// program that it copies. It fails only where an allocation fails.
+pub(crate) fn copied_items<T: Copy>(
     alloc: Global,
     of: &[Option<u16>],
-    holding: &[Option<Line>],
-) -> Result<Vec<Option<Line>>, AllocError>
-    ensures { IfOk result (λ lines. lines.items ≡ map (line_at holding.now) of.now) }
+    items: &[Option<T>],
+) -> Result<Vec<Option<T>>, AllocError>
+    ensures { IfOk result (λ copied. copied.items ≡ map (item_at items.now) of.now) }
 {
-    let mut lines = Vec::new(alloc);
-    for copied in of {
-        lines.push(line_at(holding, *copied))?;
+    let mut copied = Vec::new(alloc);
+    for slot in of {
+        copied.push(item_at(items, *slot))?;
     }
-    Ok(lines)
+    Ok(copied)
 }
 
-// The line that holds at a slot that is copied.
-fn line_at(holding: &[Option<Line>], copied: Option<u16>) -> Option<Line>
-    ensures { result ≡ line_at holding.now copied }
+// What is at a slot that is copied.
+fn item_at<T: Copy>(items: &[Option<T>], copied: Option<u16>) -> Option<T>
+    ensures { result ≡ item_at items.now copied }
 {
     match copied {
-        Some(slot) => held_at(holding, slot as usize),
-        None => None,
+        Some(slot) if (slot as usize) < items.len() => items[slot as usize],
+        _ => None,
     }
+}
+
+/// Of each slot of a program that was linked with its data the slot of the function that it copies: the first was added, and each of the
+/// others is one later than that which it copies. It fails only where an allocation fails.
+pub(crate) fn linked_slots(alloc: Global) -> Result<Vec<Option<u16>>, AllocError>
+    ensures { IfOk result (λ of. of.items ≡ linked_slots) }
+{
+    let mut of = Vec::new(alloc);
+    of.push(None)?;
+    for slot in 0..MOST_SLOTS {
+        of.push(Some(slot))?;
+    }
+    Ok(of)
 }

@@ -5,7 +5,7 @@ ghost use Rattle.ebpf_verify.specs.Traced.{subject_of};
 ghost use Rattle.ebpf_command.specs.Writing.{Performs};
 ghost use Rattle.ebpf_input.specs.declared.form.Form.TheVariants.{Raw};
 ghost use Rattle.ebpf_input.specs.ObjectText.{WritesInputPlain};
-ghost use Rattle.ebpf_show.specs.ExplainObject.{ExplainsInput};
+ghost use Rattle.ebpf_show.specs.ExplainObject.{ExplainsInput, ExplainsWithData};
 ghost use Rattle.ebpf_show.specs.ExplainText.{explained_by};
 ghost use Rattle.ebpf_show.specs.Shown.{ExplainsTo};
 
@@ -27,7 +27,8 @@ use std::io::{Read, Write};
 /// Reads a program and writes in a format what is known before each of its instructions, up to the one that is refused, and then the verdict.
 /// The program isn't run. Under the reason of a refusal is the line of C that holds at the slot, `FILE:LINE:COLUMN: TEXT`, of an object
 /// file that has lines which can be read. With `lines`, each line is before its instructions, as `list` writes it, and lines
-/// that can't be read are a fault.
+/// that can't be read are a fault. A function that reads data of its file is linked with it first: before each instruction of that program
+/// is the function's slot that it copies, as [`explain_unrolled`] writes it.
 ///
 /// # Errors
 /// `Input` where a read failed and `NoMemory` where an allocation failed: nothing was written then. `Output` where a write
@@ -39,10 +40,9 @@ pub fn explain<R: Read, W: Write>(
     ask: &Ask<'_>,
     lines: bool,
 ) -> Result<Done, EngineFault>
-    ensures done { Performs (ExplainsInput ask.now.format ask.now.input ask.now.context.now ask.now.held (record { lines = lines; unroll = false }))
-        (R.remaining reader.old) (R.remaining reader.new) (W.contents writer.old) (W.contents writer.new) writer.old writer.new result }
+    ensures done { Performs (ExplainsInput ask.now (record { lines = lines; unroll = false })) (R.remaining reader.old) (R.remaining reader.new) (W.contents writer.old) (W.contents writer.new) writer.old writer.new result }
     // Of a file without lines, it is what is written of the function's slots.
-    ensures plain { WritesInputPlain ask.now.format (ExplainsTo ask.now.format false Raw ask.now.context.now ask.now.held) ask.now.input
+    ensures plain { WritesInputPlain (ExplainsWithData ask.now (record { lines = lines; unroll = false })) (ExplainsTo ask.now.format false Raw ask.now.context.now ask.now.held) ask.now.input
         (R.remaining reader.old) (W.contents writer.old) (W.contents writer.new) result }
 {
     let detail = Detail {
@@ -65,8 +65,7 @@ pub fn explain_unrolled<R: Read, W: Write>(
     ask: &Ask<'_>,
     lines: bool,
 ) -> Result<Done, EngineFault>
-    ensures { Performs (ExplainsInput ask.now.format ask.now.input ask.now.context.now ask.now.held (record { lines = lines; unroll = true }))
-        (R.remaining reader.old) (R.remaining reader.new) (W.contents writer.old) (W.contents writer.new) writer.old writer.new result }
+    ensures { Performs (ExplainsInput ask.now (record { lines = lines; unroll = true })) (R.remaining reader.old) (R.remaining reader.new) (W.contents writer.old) (W.contents writer.new) writer.old writer.new result }
 {
     let detail = Detail {
         lines,
@@ -83,7 +82,7 @@ fn respond<R: Read, W: Write>(
     ask: &Ask<'_>,
     detail: Detail,
 ) -> Result<Done, EngineFault>
-    ensures { Performs (ExplainsInput ask.now.format ask.now.input ask.now.context.now ask.now.held detail) (R.remaining reader.old) (R.remaining reader.new)
+    ensures { Performs (ExplainsInput ask.now detail) (R.remaining reader.old) (R.remaining reader.new)
         (W.contents writer.old) (W.contents writer.new) writer.old writer.new result }
 {
     let input = read_input(alloc, reader)?;
@@ -98,7 +97,7 @@ fn explain_asked(
     input: &[u8],
     detail: Detail,
 ) -> Result<Answer, AllocError>
-    ensures { IfOk result (ExplainsInput ask.now.format ask.now.input ask.now.context.now ask.now.held detail input.now) }
+    ensures { IfOk result (ExplainsInput ask.now detail input.now) }
 {
     match ask.input {
         Input::Program(form) => {

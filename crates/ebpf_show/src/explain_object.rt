@@ -1,17 +1,24 @@
 //! What `explain` writes of a function of an object file, with its lines of C.
 
-ghost use Rattle.std.specs.Prelude.{◌≡◌, IfOk};
-ghost use Rattle.ebpf_input.specs.declared.form.Form.TheVariants.{Raw};
-ghost use Rattle.ebpf_show.specs.Shown.{ExplainsWith};
-ghost use Rattle.ebpf_show.specs.ExplainObject.{ExplainsLined, ExplainsUnread, ExplainsFunction, ExplainsObject};
+ghost use Rattle.std.specs.Prelude.{◌≡◌, IfOk, None};
+ghost use Rattle.ebpf_object_file.specs.declared.object_fault.ObjectFault.{ObjectFault};
+ghost use Rattle.ebpf_show.specs.ExplainObject.{ExplainsCode, ExplainsLined, ExplainsLinked, ExplainsUnread, ExplainsFunction, ExplainsObject};
+ghost use Rattle.ebpf_show.specs.ExplainObject.{ExplainsWithData, IsWhole, IsWholeRequest};
+ghost use Rattle.ebpf_show.specs.Shown.{states_of};
 
-use crate::shown::{Shown, show_input};
+use crate::copies::linked_slots;
+use crate::made::{copied, lines_of as lines_at};
+use crate::shown::{Shown, show_input, show_request};
 use crate::sourced::{Beside, Sourced};
 use ebpf_command::answer::Answer;
+use ebpf_command::format::Format;
 use ebpf_command::input::MAX_INPUT;
 use ebpf_input::ask::Ask;
+use ebpf_input::data_request::requested_with_data;
 use ebpf_input::form::Form;
-use ebpf_input::object::{answer_file_fault, answer_object_fault};
+use ebpf_input::no_request::answer_no_request;
+use ebpf_input::object::answer_file_fault;
+use ebpf_input::request::Request;
 use ebpf_object_file::fault::FileFault;
 use ebpf_object_file::function::{Function, wanted_function};
 use ebpf_object_file::lines::{Line, Lines};
@@ -27,24 +34,61 @@ pub(crate) struct Detail {
     pub unroll: bool,
 }
 
-// The response to the slots of a function, with the lines of C that are known.
+/// What is explained of a function.
+#[derive(Drop)]
+pub(crate) enum Code<'a> {
+    /// Its slots, as bytes.
+    Own(&'a [u8]),
+    /// The program that it was linked to with the data that it reads.
+    Linked(Request),
+}
+
+// What is shown of a program with the lines of C that are known.
+fn states_of<'a>(format: Format, source: Option<Sourced<'a>>) -> Shown<'a>
+    ensures { result ≡ states_of format source.entry }
+{
+    let beside = Beside {
+        source,
+        copies: None,
+    };
+    Shown::States { format, beside }
+}
+
+// The response to what is explained of a function, with the lines of C that are known.
 fn explain_code(
     alloc: Global,
     ask: &Ask<'_>,
-    code: &[u8],
+    code: Code<'_>,
     source: Option<Sourced<'_>>,
     unroll: bool,
 ) -> Result<Answer, AllocError>
-    ensures { IfOk result (ExplainsWith ask.now.format unroll source.entry Raw ask.now.context.now ask.now.held code.now) }
+    requires { IsWhole code }
+    ensures { IfOk result (ExplainsCode ask.now unroll code.entry source.entry) }
 {
-    let shown = Shown::States {
-        format: ask.format,
-        beside: Beside {
-            source,
-            copies: None,
-        },
-    };
-    show_input(alloc, shown, unroll, ask, Form::Raw, code)
+    match code {
+        Code::Own(slots) => {
+            let shown = states_of(ask.format, source);
+            show_input(alloc, shown, unroll, ask, Form::Raw, slots)
+        }
+        Code::Linked(request) => explain_linked(alloc, ask.format, request, source, unroll),
+    }
+}
+
+// The response to a function that was linked with its data: the slots that are named are the function's own.
+fn explain_linked(
+    alloc: Global,
+    format: Format,
+    request: Request,
+    source: Option<Sourced<'_>>,
+    unroll: bool,
+) -> Result<Answer, AllocError>
+    requires { IsWholeRequest request }
+    ensures { IfOk result (ExplainsLinked format unroll request source.entry) }
+{
+    let shown = states_of(format, source);
+    let of = linked_slots(alloc)?;
+    let lines = lines_at(alloc, shown, &of)?;
+    show_request(alloc, copied(shown, &of, &lines), unroll, request)
 }
 
 // The response to a function with lines.
@@ -52,10 +96,12 @@ fn explain_lined(
     alloc: Global,
     ask: &Ask<'_>,
     function: Function<'_>,
+    code: Code<'_>,
     lines: Lines<'_>,
     detail: Detail,
 ) -> Result<Answer, AllocError>
-    ensures { IfOk result (ExplainsLined ask.now.format detail lines.entry function.entry ask.now.context.now ask.now.held) }
+    requires { IsWhole code }
+    ensures { IfOk result (ExplainsLined ask.now detail lines.entry function.entry code.entry) }
 {
     let mut holding: Vec<Option<Line>> = vec![in alloc; None; function.code.len() / 8]?;
     lines.at_slots(function.place.from, &mut holding);
@@ -64,40 +110,62 @@ fn explain_lined(
         holding: &holding,
         listed: detail.lines,
     };
-    explain_code(alloc, ask, function.code, Some(source), detail.unroll)
+    explain_code(alloc, ask, code, Some(source), detail.unroll)
 }
 
 // The response to a function with lines that can't be read.
 fn explain_unread(
     alloc: Global,
     ask: &Ask<'_>,
-    function: Function<'_>,
+    code: Code<'_>,
     fault: FileFault,
     detail: Detail,
 ) -> Result<Answer, AllocError>
-    ensures { IfOk result (ExplainsUnread ask.now.format detail fault function.entry ask.now.context.now ask.now.held) }
+    requires { IsWhole code }
+    ensures { IfOk result (ExplainsUnread ask.now detail fault code.entry) }
 {
     if detail.lines {
         answer_file_fault(alloc, ask.format, fault)
     } else {
-        explain_code(alloc, ask, function.code, None, detail.unroll)
+        explain_code(alloc, ask, code, None, detail.unroll)
     }
 }
 
-// The response to a function of a file.
+// The response to a function of a file, of which this is explained.
 fn explain_function(
     alloc: Global,
     ask: &Ask<'_>,
     file: &[u8],
     function: Function<'_>,
+    code: Code<'_>,
     detail: Detail,
 ) -> Result<Answer, AllocError>
-    ensures { IfOk result (ExplainsFunction ask.now.format detail ask.now.context.now ask.now.held file.now function.entry) }
+    requires { IsWhole code }
+    ensures { IfOk result (ExplainsFunction ask.now detail file.now function.entry code.entry) }
 {
     match lines_of(file, function.place.section) {
-        Ok(Some(lines)) => explain_lined(alloc, ask, function, lines, detail),
-        Ok(None) => explain_code(alloc, ask, function.code, None, detail.unroll),
-        Err(fault) => explain_unread(alloc, ask, function, fault, detail),
+        Ok(Some(lines)) => explain_lined(alloc, ask, function, code, lines, detail),
+        Ok(None) => explain_code(alloc, ask, code, None, detail.unroll),
+        Err(fault) => explain_unread(alloc, ask, code, fault, detail),
+    }
+}
+
+// The response to a function that is no program by itself: it is linked with the data that it reads.
+fn explain_with_data(
+    alloc: Global,
+    ask: &Ask<'_>,
+    file: &[u8],
+    name: &str,
+    detail: Detail,
+) -> Result<Answer, AllocError>
+    ensures { IfOk result (λ response. (e : ObjectFault) → ExplainsWithData ask.now detail name.now file.now e response) }
+{
+    match requested_with_data(alloc, ask, name, file) {
+        Ok(linked) => {
+            let code = Code::Linked(linked.request);
+            explain_function(alloc, ask, file, linked.function, code, detail)
+        }
+        Err(fault) => answer_no_request(alloc, ask, file, fault),
     }
 }
 
@@ -109,13 +177,16 @@ pub(crate) fn explain_file(
     name: &str,
     detail: Detail,
 ) -> Result<Answer, AllocError>
-    ensures { IfOk result (ExplainsObject ask.now.format detail ask.now.context.now ask.now.held name.now file.now) }
+    ensures { IfOk result (ExplainsObject ask.now detail name.now file.now) }
 {
     if file.len() > MAX_INPUT {
-        return explain_code(alloc, ask, file, None, detail.unroll);
+        return explain_code(alloc, ask, Code::Own(file), None, detail.unroll);
     }
     match wanted_function(file, name.as_bytes()) {
-        Ok(function) => explain_function(alloc, ask, file, function, detail),
-        Err(fault) => answer_object_fault(alloc, ask.format, file, fault),
+        Ok(function) => {
+            let code = Code::Own(function.code);
+            explain_function(alloc, ask, file, function, code, detail)
+        }
+        Err(_) => explain_with_data(alloc, ask, file, name, detail),
     }
 }

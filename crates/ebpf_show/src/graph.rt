@@ -2,27 +2,28 @@
 
 ghost use Rattle.std.specs.Prelude.{◌≡◌, IfOk, false, true};
 ghost use Rattle.ebpf_verify.specs.Traced.{subject_of};
-ghost use Rattle.ebpf_command.specs.declared.format.Format.TheVariants.{Text};
+ghost use Rattle.ebpf_object_file.specs.declared.object_fault.ObjectFault.{ObjectFault};
 ghost use Rattle.ebpf_command.specs.Writing.{Performs};
-ghost use Rattle.ebpf_input.specs.ObjectText.{RespondsInput};
 ghost use Rattle.ebpf_show.specs.GraphText.{graphed_by};
-ghost use Rattle.ebpf_show.specs.Shown.{GraphsAs};
+ghost use Rattle.ebpf_show.specs.GraphInput.{GraphsInput, GraphsWithData};
 
-use crate::shown::{Shown, show_input};
+use crate::shown::{Shown, show_input, show_request};
 use ebpf_command::answer::{Answer, write_answer};
 use ebpf_command::done::{Done, EngineFault};
-use ebpf_command::format::Format;
 use ebpf_command::input::read_input;
 use ebpf_graph::graph::write_graph;
 use ebpf_input::ask::{Ask, Input};
+use ebpf_input::data_request::requested_with_data;
 use ebpf_input::form::Form;
-use ebpf_input::object::{answer_object_fault, taken};
+use ebpf_input::no_request::answer_no_request;
+use ebpf_input::object::taken;
 use ebpf_verify::trace::Trace;
 use std::alloc::{AllocError, Global};
 use std::io::{Read, Write};
 
 /// Reads a program and writes the graph of its flow as a text, with the slot that the verifier refuses. Of bytes that are no program, or
-/// whose flow is refused, it writes what [`crate::explain::explain`] does. With `states` each block begins with what is known before it.
+/// whose flow is refused, it writes what [`crate::explain::explain`] does. With `states` each block begins with what is known before it. A
+/// function that reads data of its file is linked with it first.
 ///
 /// # Errors
 /// `Input` where a read failed and `NoMemory` where an allocation failed: nothing was written then. `Output` where a write
@@ -34,7 +35,7 @@ pub fn graph<R: Read, W: Write>(
     ask: &Ask<'_>,
     states: bool,
 ) -> Result<Done, EngineFault>
-    ensures { Performs (RespondsInput Text ask.now.input (GraphsAs false states ask.now.context.now ask.now.held))
+    ensures { Performs (GraphsInput ask.now false states)
         (R.remaining reader.old) (R.remaining reader.new) (W.contents writer.old) (W.contents writer.new) writer.old writer.new result }
 {
     respond(alloc, reader, writer, ask, states, false)
@@ -53,7 +54,7 @@ pub fn graph_unrolled<R: Read, W: Write>(
     ask: &Ask<'_>,
     states: bool,
 ) -> Result<Done, EngineFault>
-    ensures { Performs (RespondsInput Text ask.now.input (GraphsAs true states ask.now.context.now ask.now.held))
+    ensures { Performs (GraphsInput ask.now true states)
         (R.remaining reader.old) (R.remaining reader.new) (W.contents writer.old) (W.contents writer.new) writer.old writer.new result }
 {
     respond(alloc, reader, writer, ask, states, true)
@@ -68,7 +69,7 @@ fn respond<R: Read, W: Write>(
     states: bool,
     unroll: bool,
 ) -> Result<Done, EngineFault>
-    ensures { Performs (RespondsInput Text ask.now.input (GraphsAs unroll states ask.now.context.now ask.now.held))
+    ensures { Performs (GraphsInput ask.now unroll states)
         (R.remaining reader.old) (R.remaining reader.new) (W.contents writer.old) (W.contents writer.new) writer.old writer.new result }
 {
     let input = read_input(alloc, reader)?;
@@ -84,15 +85,32 @@ fn graph_asked(
     states: bool,
     unroll: bool,
 ) -> Result<Answer, AllocError>
-    ensures { IfOk result (RespondsInput Text ask.now.input (GraphsAs unroll states ask.now.context.now ask.now.held) input.now) }
+    ensures { IfOk result (GraphsInput ask.now unroll states input.now) }
 {
     let shown = Shown::Graph { states };
     match ask.input {
         Input::Program(form) => show_input(alloc, shown, unroll, ask, form, input),
         Input::Object(name) => match taken(name, input) {
             Ok(bytes) => show_input(alloc, shown, unroll, ask, Form::Raw, bytes),
-            Err(fault) => answer_object_fault(alloc, Format::Text, input, fault),
+            Err(_) => graph_with_data(alloc, ask, name, input, states, unroll),
         },
+    }
+}
+
+// The response to a function that is no program by itself: it is linked with the data that it reads.
+fn graph_with_data(
+    alloc: Global,
+    ask: &Ask<'_>,
+    name: &str,
+    file: &[u8],
+    states: bool,
+    unroll: bool,
+) -> Result<Answer, AllocError>
+    ensures { IfOk result (λ response. (e : ObjectFault) → GraphsWithData ask.now unroll states name.now file.now e response) }
+{
+    match requested_with_data(alloc, ask, name, file) {
+        Ok(linked) => show_request(alloc, Shown::Graph { states }, unroll, linked.request),
+        Err(fault) => answer_no_request(alloc, ask, file, fault),
     }
 }
 

@@ -3,10 +3,10 @@
 ghost use Rattle.std.specs.Prelude.{◌≡◌, IfOk};
 ghost use Rattle.ebpf_insn.specs.Decoding.{decode_fault};
 ghost use Rattle.ebpf_state.specs.Kinds.{AreKinds};
-ghost use Rattle.ebpf_show.specs.Shown.{AreCopiedLines, IsCopiedShown, IsHeldSource, ShowsDecoded, ShowsForward, ShowsMade, under};
+ghost use Rattle.ebpf_show.specs.Shown.{AreCopiedLines, HasBeside, IsCopiedShown, IsHeldSource, ShowsDecoded, ShowsForward, ShowsMade, copies_of, first_slots, under};
 
-use crate::copies::{Copies, copied_lines};
-use crate::shown::{Shown, format_of, show_bytes, source_of};
+use crate::copies::{Copies, copied_items};
+use crate::shown::{Shown, copies_of, format_of, show_bytes, source_of};
 use crate::sourced::{Beside, Sourced, with_line};
 use ebpf_command::answer::Answer;
 use ebpf_forward::forward::{Forward, lead_forward};
@@ -78,11 +78,27 @@ fn show_made(
 {
     let bytes = encode(alloc, made.program())?;
     let lines = lines_of(alloc, shown, made.of())?;
-    show_bytes(alloc, copied(shown, made.of(), &lines), &bytes, decl, kinds)
+    let of = first_slots(alloc, shown, made.of())?;
+    show_bytes(alloc, copied(shown, &of, &lines), &bytes, decl, kinds)
 }
 
-// The line of C that holds at each slot of a program that copies slots.
-fn lines_of(
+// Of each slot of a program that copies slots of what is shown, the slot that is named beside it: where what is shown copies slots too, that
+// which the copied one copies.
+fn first_slots(
+    alloc: Global,
+    shown: Shown<'_>,
+    of: &[Option<u16>],
+) -> Result<Vec<Option<u16>>, AllocError>
+    ensures { IfOk result (λ first. first.items ≡ first_slots (copies_of shown.entry) of.now) }
+{
+    match copies_of(shown) {
+        Some(copies) => copied_items(alloc, of, copies.of),
+        None => of.to_vec(alloc),
+    }
+}
+
+/// The line of C that holds at each slot of a program that copies slots. It fails only where an allocation fails.
+pub(crate) fn lines_of(
     alloc: Global,
     shown: Shown<'_>,
     of: &[Option<u16>],
@@ -90,15 +106,18 @@ fn lines_of(
     ensures { IfOk result (λ lines. AreCopiedLines of.now shown.entry lines.items) }
 {
     match source_of(shown) {
-        Some(source) => copied_lines(alloc, of, source.holding),
+        Some(source) => copied_items(alloc, of, source.holding),
         None => Ok(Vec::new(alloc)),
     }
 }
 
-// The same of a program that copies slots, with the lines of C that hold at its slots.
-fn copied<'a>(shown: Shown<'a>, of: &'a [Option<u16>], holding: &'a [Option<Line>]) -> Shown<'a>
-    requires { AreCopiedLines of.now shown holding.now }
-    ensures { IsCopiedShown of.now shown.entry result }
+/// The same of a program that copies slots, with the slots that it copies and the lines of C that hold at its own.
+pub(crate) fn copied<'a>(
+    shown: Shown<'a>,
+    of: &'a [Option<u16>],
+    holding: &'a [Option<Line>],
+) -> Shown<'a>
+    ensures { HasBeside of.now holding.now shown.entry result }
 {
     match shown {
         Shown::States { format, beside } => Shown::States {

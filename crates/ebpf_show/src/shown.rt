@@ -2,27 +2,22 @@
 
 ghost use Rattle.std.specs.Prelude.{◌≡◌, IfOk, length};
 ghost use Rattle.ebpf_state.specs.Kinds.{AreKinds};
-ghost use Rattle.ebpf_show.specs.ExplainText.{misled_response};
-ghost use Rattle.ebpf_show.specs.Shown.{ShowsBy, ShowsTo, ShowsBytes, ShowsWith, format_of, source_of, shown_of};
+ghost use Rattle.ebpf_show.specs.Shown.{ShowsBy, ShowsTo, ShowsBytes, ShowsWith, copies_of, format_of, source_of, shown_of};
 
+use crate::copies::Copies;
 use crate::explain::answer_states;
 use crate::graph::answer_graph;
 use crate::made::show_forward;
 use crate::sourced::{Beside, Sourced, with_line};
 use ebpf_command::answer::Answer;
-use ebpf_command::codes::RefusalCode;
 use ebpf_command::done::Stop;
 use ebpf_command::format::Format;
-use ebpf_explain::reason::write_misled;
-use ebpf_flow::fault::FlowCode;
 use ebpf_flow::flowed::Flowed;
 use ebpf_flow::followed::{Followed, follow};
 use ebpf_input::ask::Ask;
 use ebpf_input::form::Form;
-use ebpf_input::in_format::answer_refused_why;
-use ebpf_input::input_faults::{answer_undecoded, answer_unused};
+use ebpf_input::input_faults::{answer_misled, answer_undecoded, answer_unused};
 use ebpf_input::request::{Request, requested};
-use ebpf_insn::program::Program;
 use ebpf_state::kinds::{KindRow, kinds};
 use ebpf_verify::decl::Decl;
 use ebpf_verify::trace::Trace;
@@ -57,6 +52,16 @@ pub(crate) fn source_of<'a>(shown: Shown<'a>) -> Option<Sourced<'a>>
     }
 }
 
+/// The slots of another program that are copied, if any.
+pub(crate) fn copies_of<'a>(shown: Shown<'a>) -> Option<Copies<'a>>
+    ensures { result ≡ copies_of shown.entry }
+{
+    match shown {
+        Shown::States { beside, .. } => beside.copies,
+        Shown::Graph { .. } => None,
+    }
+}
+
 /// The response to an input in a form, with the options that are asked for. It fails only where an allocation fails.
 pub(crate) fn show_input(
     alloc: Global,
@@ -75,8 +80,9 @@ pub(crate) fn show_input(
     }
 }
 
-// The response to the bytes of a request: of their program as it is, or of one of which every jump leads forward.
-fn show_request(
+/// The response to the bytes of a request: of their program as it is, or of one of which every jump leads forward. It fails only where an
+/// allocation fails.
+pub(crate) fn show_request(
     alloc: Global,
     shown: Shown<'_>,
     unroll: bool,
@@ -135,21 +141,6 @@ pub(crate) fn show_bytes(
         }
         Followed::Flowed(flowed) => show_flowed(alloc, shown, &flowed, decl, kinds),
     }
-}
-
-// The answer to a program whose flow is refused.
-fn answer_misled(
-    alloc: Global,
-    format: Format,
-    program: &Program,
-    slot: u16,
-    code: FlowCode,
-) -> Result<Answer, AllocError>
-    ensures { IfOk result (λ answer. answer ≡ misled_response format program.now slot code) }
-{
-    let mut why = String::new(alloc);
-    write_misled(alloc, &mut why, program, slot as usize, code)?;
-    answer_refused_why(alloc, format, RefusalCode::Flow(code).name(), slot, &why)
 }
 
 // What is shown of a program whose flow has no fault.

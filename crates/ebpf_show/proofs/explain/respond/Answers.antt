@@ -5,13 +5,13 @@ use Rattle.ebpf_show.proofs.Explanations.{explains_cuts}
 use Rattle.ebpf_show.proofs.explain.respond.Goals as goal
 
 pub returns-in_err-input : goal.returns-in_err-input
-returns-in_err-input g c = performs_nothing (ExplainsInput c.args.ask.now.format c.args.ask.now.input c.args.ask.now.context.now c.args.ask.now.held c.args.detail) _ _ _ c.args.writer.now _ (search rules)
+returns-in_err-input g c = performs_nothing (ExplainsInput c.args.ask.now c.args.detail) _ _ _ c.args.writer.now _ (search rules)
 
 pub returns-in_err-answer : goal.returns-in_err-answer
-returns-in_err-answer g c = performs_nothing (ExplainsInput c.args.ask.now.format c.args.ask.now.input c.args.ask.now.context.now c.args.ask.now.held c.args.detail) _ _ _ c.args.writer.now _ (search rules)
+returns-in_err-answer g c = performs_nothing (ExplainsInput c.args.ask.now c.args.detail) _ _ _ c.args.writer.now _ (search rules)
 
 pub returns : goal.returns
 returns g c =
-    performs_answer (ExplainsInput c.args.ask.now.format c.args.ask.now.input c.args.ask.now.context.now c.args.ask.now.held c.args.detail) (explains_cuts c.args.ask.now.format c.args.ask.now.input c.args.ask.now.context.now c.args.ask.now.held c.args.detail)
+    performs_answer (ExplainsInput c.args.ask.now c.args.detail) (explains_cuts c.args.ask.now c.args.detail)
     _ _ _ _ c.args.writer.now _ _ _ c.in_ok-answer.answer _
     c.in_ok-input.ensures.read c.in_ok-input.ensures.consumed c.deref.ensures.value c.in_ok-answer.ensures c.write_answer.ensures

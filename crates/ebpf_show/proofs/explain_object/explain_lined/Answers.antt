@@ -1,6 +1,6 @@
 use Rattle.std.proofs.Common.{rules, refl}
 use Rattle.std.proofs.lemmas.Result.{IfOk-weaker}
-use Rattle.ebpf_show.proofs.Explanations.{held_in}
+use Rattle.ebpf_input.proofs.SourceLine.{held_in}
 use Rattle.ebpf_show.proofs.explain_object.explain_lined.Goals as goal
 
 pub returns : goal.returns
