@@ -44,7 +44,7 @@ enum {
     EBPF_REFUSED = 1,     /* the bytes are or have no program that can be run: see ebpf_refusal */
     EBPF_DECLARATION = 2, /* more than 4,096 bytes of context, or more than 64 objects, are declared */
     EBPF_PAGES = 3,       /* a machine has 1 to 256 pages */
-    EBPF_CONTEXT = 4,     /* the context doesn't have the length that the program declares */
+    EBPF_CONTEXT = 4,     /* the context doesn't have the length for which the program was loaded */
     EBPF_EMPTY = 5,       /* a handle holds nothing */
     EBPF_NO_MEMORY = 6    /* an allocation failed */
 };
@@ -72,7 +72,7 @@ typedef struct ebpf_machine { void *word; } ebpf_machine;
 /* Why bytes are refused. */
 typedef struct ebpf_refusal {
     char code[4];    /* the code, as "V8" or "O1", followed by zeros */
-    uint32_t slot;   /* the lowest slot of eight bytes that is at fault, 0 for O1 to O3; see also ebpf_program_load_unrolled */
+    uint32_t slot;   /* the lowest slot of eight bytes that is at fault, 0 if the sentence names none; see also the loads */
     uint64_t length; /* how many bytes the text has, without the zero that ends it */
 } ebpf_refusal;
 
@@ -104,7 +104,13 @@ ebpf_status ebpf_program_load(ebpf_program *program, const uint8_t *bytes, size_
  * EBPF_REFUSED also where the file has no such program, with the code O1 where the file can't be read, or the name is too long (more than
  * 255 bytes), O2 where no function has the name, O3 where no name is given and there are several functions, and O4 where a slot needs
  * another part of the file. The file is judged before the declaration. Where the file has lines of C (clang -g) that can be read, a second
- * line of text after the sentence is the line of C that the slot came from, "  FILE:LINE:COLUMN: TEXT", and then the zero. */
+ * line of text after the sentence is the line of C that the slot came from, "  FILE:LINE:COLUMN: TEXT", and then the zero.
+ *
+ * A function may read constant data of its file: tables, strings and constants. The program then keeps that data, which comes after the
+ * context, and both have at most 4,096 bytes together; `context` is how many bytes the host gives to each run, without the data. O5: the
+ * function can't be linked with its data; the slot is one of the function, or 0. The program has one slot more than the function, in front:
+ * a slot that is refused by F3, F5 or a code with V is one of that program, and runs count its instructions. The line of C is that of the
+ * function's slot. */
 ebpf_status ebpf_program_load_elf(ebpf_program *program, const uint8_t *bytes, size_t length, const char *name, size_t name_length,
                                   uint32_t context, uint32_t held, char *text, size_t text_length, ebpf_refusal *refusal);
 
@@ -142,7 +148,8 @@ void ebpf_machine_free(ebpf_machine *machine);
 /* Gives back each page of a machine on which no object is held or left on a shelf, so that objects of any kind may be there. EBPF_EMPTY. */
 ebpf_status ebpf_machine_reap(ebpf_machine *machine);
 
-/* Runs a program on a context, limit instructions at most; no program does more than 4,096. A run that has not exited by then is given
+/* Runs a program on a context of the length for which it was loaded, which has no data of an object file, limit instructions at most; no
+ * program does more than 4,096. A run that has not exited by then is given
  * up, which is not an error. Its numbers of output are written to output, as far as output_length of them have room; report->outputs says
  * how many there were. A call of new that finds no page or no memory is answered null, which is not an error. What the run leaves on a
  * shelf is there for the next run on the machine.

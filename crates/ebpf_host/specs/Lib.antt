@@ -5,3 +5,4 @@ pub mod Leaving
 pub mod Finding
 pub mod Loading
 pub mod Unrolled
+pub mod Whole

@@ -7,6 +7,7 @@ ghost use Rattle.ebpf_host.specs.Finding.{AreFound};
 ghost use Rattle.ebpf_host.specs.Leaving.{AreLeft};
 ghost use Rattle.ebpf_host.specs.Reports.{IsReportWithin};
 ghost use Rattle.ebpf_host.specs.Stocks.{stock_of};
+ghost use Rattle.ebpf_host.specs.Whole.{whole};
 
 use crate::program::Program;
 use crate::stock::Counts;
@@ -23,6 +24,9 @@ use std::marker::Model;
 use std::mem;
 use vmem_arena::{Arena, ArenaFault};
 
+// How many bytes keep the end of what runs write off the lines of the processor's cache that other threads use.
+const BYTES_APART: usize = 128;
+
 /// The memory of runs and the objects that they take, give back and leave on shelves. It serves one run at a time, of whatever
 /// program; what a run leaves on a shelf is there for the next. All of it ends with the machine.
 pub struct Machine {
@@ -32,6 +36,8 @@ pub struct Machine {
     stocks: Box<Stocks>,
     // None before the first run, and after one that found no memory.
     workspace: Option<Workspace<Object>>,
+    // The context of the last program with data, with the data.
+    room: Vec<u8>,
     after: [u64; WORDS_APART],
 }
 
@@ -61,6 +67,7 @@ impl Machine {
                 before: [0; WORDS_APART],
                 stocks,
                 workspace: None,
+                room: Vec::new(alloc),
                 after: [0; WORDS_APART],
             }),
             Err(failed) => {
@@ -73,9 +80,11 @@ impl Machine {
     /// Runs a program on a context to its exit, `limit` instructions of it at most. A run that has not exited by then is given up: it
     /// gives its objects back, and its report has no exit. No program does more instructions than it has, 4,096 at most.
     ///
+    /// The context is what the host gives; the data of a program that has some comes after it.
+    ///
     /// # Errors
-    /// `ContextLength` where the context doesn't have the length that was declared; `NoMemory` where an allocation of the run failed. A
-    /// call of `new` for which there is no page or no memory is answered null, and is no error.
+    /// `ContextLength` where the context doesn't have the length of [`Program::context`]; `NoMemory` where an allocation of the run failed.
+    /// A call of `new` for which there is no page or no memory is answered null, and is no error.
     pub fn run(
         &mut self,
         program: &Program,
@@ -83,13 +92,13 @@ impl Machine {
         limit: u64,
     ) -> Result<Report, StartFault>
         // It is what the program does alone, with the answers of the report.
-        ensures report { IfOk result (IsReportWithin program.now.verified context.now limit) }
-        ensures length { OnOk result (length context.now ≡ program.now.verified.decl.context) }
-        ensures refused { IfErr result (IsStartFault (length context.now) program.now.verified.decl.context) }
+        ensures report { IfOk result (IsReportWithin program.now.verified (whole program.now context.now) limit) }
+        ensures length { OnOk result (length (whole program.now context.now) ≡ program.now.verified.decl.context) }
+        ensures refused { IfErr result (IsStartFault (length (whole program.now context.now)) program.now.verified.decl.context) }
         // A call of `swap` finds what was on its shelf before the run, or what the run has put there since.
-        ensures found { IfOk result (AreFound self.old program.now.verified context.now) }
+        ensures found { IfOk result (AreFound self.old program.now.verified (whole program.now context.now)) }
         // What is on the shelves afterwards is what the program alone leaves there.
-        ensures shelves { IfOk result (AreLeft self.old self.new program.now.verified context.now) }
+        ensures shelves { IfOk result (AreLeft self.old self.new program.now.verified (whole program.now context.now)) }
         ensures pages { self.new.arena.pages ≡ self.old.arena.pages }
         ensures unchanged { OnErr result (self.new ≡ self.old) }
     {
@@ -110,11 +119,11 @@ impl Machine {
         context: &[u8],
         limit: u64,
     ) -> Result<Ended<Object>, StartFault>
-        ensures report { IfOk result (IsReportWithin program.now.verified context.now limit) }
-        ensures length { OnOk result (length context.now ≡ program.now.verified.decl.context) }
-        ensures refused { IfErr result (IsStartFault (length context.now) program.now.verified.decl.context) }
-        ensures found { IfOk result (AreFound self.old program.now.verified context.now) }
-        ensures shelves { IfOk result (AreLeft self.old self.new program.now.verified context.now) }
+        ensures report { IfOk result (IsReportWithin program.now.verified (whole program.now context.now) limit) }
+        ensures length { OnOk result (length (whole program.now context.now) ≡ program.now.verified.decl.context) }
+        ensures refused { IfErr result (IsStartFault (length (whole program.now context.now)) program.now.verified.decl.context) }
+        ensures found { IfOk result (AreFound self.old program.now.verified (whole program.now context.now)) }
+        ensures shelves { IfOk result (AreLeft self.old self.new program.now.verified (whole program.now context.now)) }
         ensures pages { self.new.arena.pages ≡ self.old.arena.pages }
         ensures unchanged { OnErr result (self.new ≡ self.old) }
     {
@@ -123,7 +132,11 @@ impl Machine {
         }
         let workspace = self.take_workspace()?;
         let stocks = &mut *self.stocks;
-        let ended = run_within(workspace, program, context, stocks, limit)?;
+        let Ok(joined) = whole_of(&mut self.room, program, context) else {
+            workspace.free();
+            return Err(StartFault::NoMemory);
+        };
+        let ended = run_within(workspace, program, joined, stocks, limit)?;
         Ok(ended)
     }
 
@@ -181,6 +194,7 @@ impl Drop for Machine {
             before: _,
             stocks,
             workspace,
+            room: _,
             after: _,
         } = self;
         Box::into_inner(stocks).end();
@@ -188,4 +202,24 @@ impl Drop for Machine {
             workspace.free();
         }
     }
+}
+
+// What a program has as its context: the host's bytes and its data, in some room; without data the host's bytes, where they are. It fails
+// only where an allocation fails.
+fn whole_of<'a>(
+    room: &'a mut Vec<u8>,
+    program: &Program,
+    context: &'a [u8],
+) -> Result<&'a [u8], AllocError>
+    ensures { IfOk result (λ joined. joined.now ≡ whole program.now context.now) }
+{
+    let after = program.data();
+    if after.is_empty() {
+        return Ok(context);
+    }
+    room.clear();
+    room.reserve(context.len() + after.len() + BYTES_APART)?;
+    room.extend_from_slice(context)?;
+    room.extend_from_slice(after)?;
+    Ok(room)
 }

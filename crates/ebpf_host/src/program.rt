@@ -1,6 +1,6 @@
 //! A program that a host has loaded.
 
-ghost use Rattle.std.specs.Prelude.{◌≡◌, ◌≤◌, ◌↔◌, length, IsSome, IfSome, IfOk, IfErr};
+ghost use Rattle.std.specs.Prelude.{◌≡◌, ◌≤◌, ◌+◌, ◌↔◌, [], length, IsSome, IfSome, IfOk, IfErr};
 ghost use Rattle.ebpf_insn.specs.declared.program.TheConstants.{MAX_SLOTS};
 ghost use Rattle.ebpf_insn.specs.Program.{instructions};
 ghost use Rattle.ebpf_machine.specs.Kinds.{known_kinds};
@@ -21,10 +21,15 @@ use std::alloc::{AllocError, Global};
 
 /// A program of which no run traps, judged once, to be run any number of times. Only [`Program::load`], [`Program::load_unrolled`] and
 /// [`Program::of`] make one.
+///
+/// It may read data of its own, as a compiler's tables and strings: these bytes are the end of the context for which it was verified, and
+/// come after those that the host gives.
 #[derive(Drop)]
 pub struct Program {
     pub(crate) verified: Verified,
+    pub(crate) data: Vec<u8>,
     ghost kinds: { kinds_of verified.rows ≡ known_kinds },
+    ghost fits: { length «data».items ≤ verified.decl.context },
 }
 
 impl Program {
@@ -36,6 +41,8 @@ impl Program {
     /// where an allocation failed.
     pub fn load(alloc: Global, bytes: &[u8], context: u32, held: u32) -> Result<Program, LoadFault>
         ensures loaded { IfOk result (λ p. IsLoaded bytes.now context held p.verified) }
+        ensures declared { IfOk result (λ p. p.verified.decl.context ≡ context) }
+        ensures alone { IfOk result (λ p. p.data.items ≡ []) }
         ensures refused { IfErr result (IsLoadFault bytes.now context held) }
     {
         let Some(decl) = declared(context, held) else {
@@ -46,7 +53,7 @@ impl Program {
         let mut sentence = String::new(alloc);
         write_why(alloc, &mut sentence, bytes, &examined, decl, &kinds)?;
         match Judged::of(examined) {
-            Judged::Accepted(verified) => Ok(Program { verified }),
+            Judged::Accepted(verified) => Ok(Program::of(alloc, verified)),
             Judged::Refused { code, slot } => Err(LoadFault::Refused(Refusal {
                 code,
                 slot,
@@ -56,12 +63,27 @@ impl Program {
         }
     }
 
-    /// A program that was verified with the kinds that there are.
-    pub fn of(verified: Verified) -> Program
+    /// A program that was verified with the kinds that there are. It has no data.
+    pub fn of(alloc: Global, verified: Verified) -> Program
         requires { kinds_of verified.rows ≡ known_kinds }
-        ensures { result.verified ≡ verified }
+        ensures verified { result.verified ≡ verified }
+        ensures alone { result.data.items ≡ [] }
     {
-        Program { verified }
+        let data = Vec::new(alloc);
+        Program { verified, data }
+    }
+
+    /// The same program with these bytes as its data, in place of those that it had: they are the end of its context.
+    pub fn with_data(self, bytes: Vec<u8>) -> Program
+        requires { length bytes.items ≤ self.verified.decl.context }
+        ensures verified { result.verified ≡ self.verified }
+        ensures bytes { result.data.items ≡ bytes.items }
+    {
+        let Program { verified, data: _ } = self;
+        Program {
+            verified,
+            data: bytes,
+        }
     }
 
     /// How many instructions it has.
@@ -72,16 +94,30 @@ impl Program {
         self.verified.len()
     }
 
-    /// How many bytes its context has.
+    /// How many bytes of context the host gives: those that were declared, without the data.
     pub fn context(&self) -> u32
-        ensures { result ≡ self.now.verified.decl.context }
+        ensures { result + length self.now.data.items ≡ self.now.verified.decl.context }
     {
-        self.verified.decl().context
+        self.verified.decl().context - self.data.len() as u32
+    }
+
+    /// Its data, which comes after the host's bytes.
+    pub fn data(&self) -> &[u8]
+        ensures { result.now ≡ self.now.data.items }
+    {
+        &self.data
+    }
+
+    /// What was verified.
+    pub fn verified(&self) -> &Verified
+        ensures { result.now ≡ self.now.verified }
+    {
+        &self.verified
     }
 }
 
 /// What is declared, `None` where a number is out of its range.
-pub(crate) fn declared(context: u32, held: u32) -> Option<Decl>
+pub fn declared(context: u32, held: u32) -> Option<Decl>
     ensures some { IsSome result ↔ ((context ≤ MAX_CONTEXT) × (held ≤ MAX_HELD)) }
     ensures value { IfSome result (λ d. (d.context ≡ context) × (d.held ≡ held)) }
 {

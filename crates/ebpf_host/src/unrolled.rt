@@ -1,6 +1,6 @@
 //! Loads of programs whose jumps may lead back.
 
-ghost use Rattle.std.specs.Prelude.{◌≡◌, IfOk, IfErr, Some, slice_index_or};
+ghost use Rattle.std.specs.Prelude.{◌≡◌, [], IfOk, IfErr, Some, slice_index_or};
 ghost use Rattle.ebpf_state.specs.Kinds.{AreKinds};
 ghost use Rattle.ebpf_explain.specs.DecodeSentences.{decode_sentence};
 ghost use Rattle.ebpf_layout.specs.Layout.{copied_in};
@@ -47,6 +47,8 @@ impl Program {
         held: u32,
     ) -> Result<Program, LoadFault>
         ensures loaded { IfOk result (λ p. IsLoadedForward bytes.now context held p.verified) }
+        ensures declared { IfOk result (λ p. p.verified.decl.context ≡ context) }
+        ensures alone { IfOk result (λ p. p.data.items ≡ []) }
         ensures refused { IfErr result (IsForwardLoadFault bytes.now context held) }
     {
         let Some(decl) = declared(context, held) else {
@@ -91,6 +93,8 @@ fn load_decoded(
 ) -> Result<Program, LoadFault>
     requires { AreKinds kinds.now }
     ensures loaded { IfOk result (λ p. IsMadeAs program.now decl kinds.now p.verified) }
+    ensures declared { IfOk result (λ p. p.verified.decl.context ≡ decl.context) }
+    ensures alone { IfOk result (λ p. p.data.items ≡ []) }
     ensures refused { IfErr result (IsFaultBy (IsProgramRefused program.now decl kinds.now) decl.context decl.held) }
 {
     match lead_forward(alloc, program, decl, kinds) {
@@ -98,7 +102,7 @@ fn load_decoded(
         Ok(Forward::Unrolled(unrolled)) => {
             // Read for what it promises: the program was accepted.
             let _ = unrolled.verified.program();
-            Ok(Program::of(unrolled.verified))
+            Ok(Program::of(alloc, unrolled.verified))
         }
         Err(fault) => Err(LoadFault::Refused(stopped(alloc, program, decl, kinds, fault)?)),
     }
@@ -107,6 +111,8 @@ fn load_decoded(
 // Loads a program that was laid out.
 fn load_laid(alloc: Global, laid: Laid, decl: Decl) -> Result<Program, LoadFault>
     ensures loaded { IfOk result (λ p. IsLoadedOf decl (LaidOut laid) p.verified) }
+    ensures declared { IfOk result (λ p. p.verified.decl.context ≡ decl.context) }
+    ensures alone { IfOk result (λ p. p.data.items ≡ []) }
     ensures refused { IfErr result (IsFaultBy (IsLaidRefusal laid decl) decl.context decl.held) }
 {
     let bytes = encode(alloc, &laid.program)?;

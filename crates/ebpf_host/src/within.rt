@@ -13,7 +13,7 @@ use ebpf_machine::objects::Objects;
 use ebpf_machine::run::{Run, StartFault};
 use ebpf_machine::workspace::Workspace;
 
-/// Runs a program on a context, with the objects of a store, in the memory of a run that has ended, and leaves there what it did. After
+/// Runs a program on a context that has its data, with the objects of a store, in the memory of a run that has ended, and leaves there what it did. After
 /// `limit` instructions the run is given up, and what it holds goes back.
 ///
 /// # Errors

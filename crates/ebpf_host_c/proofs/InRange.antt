@@ -6,7 +6,7 @@ use Rattle.ebpf_host.specs.declared.refusal.Refusal.{Refusal}
 use Rattle.ebpf_host.specs.Loading.{IsInRange}
 use Rattle.ebpf_host_c.specs.declared.loading.Loops.{Loops}
 use Rattle.ebpf_host_c.specs.declared.loading.Loops.TheVariants as loops
-use Rattle.ebpf_host_c.specs.Loads.{IsLoadedBy, IsRefusedBy}
+use Rattle.ebpf_host_c.specs.Ways.{IsLoadedBy, IsRefusedBy}
 
 declared_in_range : (context held : ℕ) (decl : Decl) → decl.context ≡ context → decl.held ≡ held → IsInRange context held
 declared_in_range context held decl context_is held_is =

@@ -1,2 +1,4 @@
 pub mod Passing
 pub mod InRange
+pub mod Holding
+pub mod Unloading

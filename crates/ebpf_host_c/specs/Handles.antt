@@ -7,6 +7,7 @@ use Rattle.std.specs.declared.sync.Arc.{Arc}
 use Rattle.ebpf_host.specs.declared.program.Program.{Program}
 use Rattle.ebpf_host.specs.declared.stocks.Stocks.{Stocks}
 use Rattle.ebpf_host.specs.Stocks.{stock_of}
+use Rattle.ebpf_host.specs.Whole.{whole}
 use Rattle.ebpf_host_c.specs.declared.reported.Reported.{Reported}
 use Rattle.ebpf_host_c.specs.Reported.{IsReportWritten}
 
@@ -30,4 +31,4 @@ ShelvesStay before after = (kind : ℕ) → (stock_of after kind).shelf ≡ (sto
 abbrev pub IsRunReported : Option (Arc Program Global) → Option Stocks → Option Stocks → List ℕ → ℕ → List ℕ → List ℕ → Reported → Type 0
 IsRunReported program old new context limit room output filled =
     MatchOption program ⊥ (λ p. MatchOption old ⊥ (λ before. MatchOption new ⊥ (λ after.
-    IsReportWritten before after (arc_value p).verified context limit room output filled)))
+    IsReportWritten before after (arc_value p).verified (whole (arc_value p) context) limit room output filled)))

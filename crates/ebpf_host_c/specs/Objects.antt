@@ -1,5 +1,5 @@
 -- What becomes of a function of an object file that C loads.
-use Rattle.std.specs.Prelude.{ℕ, ◌≡◌, ◌⊎◌, ◌+◌, ◌*◌, ◌++◌, List, Option, Some, None, codes, cond, nat_lt}
+use Rattle.std.specs.Prelude.{ℕ, ◌≡◌, ◌+◌, ◌*◌, ◌++◌, List, Option, Some, None, codes, cond, nat_lt}
 use Rattle.ebpf_object_file.specs.declared.function.Function.{Function}
 use Rattle.ebpf_object_file.specs.declared.holding_line.HoldingLine.{HoldingLine}
 use Rattle.ebpf_object_file.specs.declared.object_fault.ObjectFault.{ObjectFault}
@@ -8,11 +8,9 @@ use Rattle.ebpf_object_file.specs.declared.outside.Place.{Place}
 use Rattle.ebpf_object_file.specs.Function.{IsWanted, IsWantedFault}
 use Rattle.ebpf_object_file.specs.HoldingLine.{IsHoldingLine}
 use Rattle.ebpf_object_file.specs.Sentences.{object_code, object_sentence}
-use Rattle.ebpf_verify.specs.Subject.{Subject}
-use Rattle.ebpf_host.specs.declared.refusal.Refusal.{Refusal}
 use Rattle.ebpf_host_c.specs.declared.reported.InFile.{InFile}
 use Rattle.ebpf_host_c.specs.declared.reported.Refused.{Refused}
-use Rattle.ebpf_host_c.specs.Reported.{IsReported, IsRefusalReported, line_under}
+use Rattle.ebpf_host_c.specs.Reported.{IsReported, line_under}
 
 -- the slot that needs another part of the file, at most the greatest number of 32 bits; 0 for the other faults
 abbrev pub fault_slot : ObjectFault → ℕ
@@ -30,10 +28,6 @@ HasFunction file name = (f : Function) × IsWanted file name f
 -- the file has no such function, or can't be read
 abbrev pub HasFault : (file name : List ℕ) → Type 0
 HasFault file name = (e : ObjectFault) × IsWantedFault file name e
-
--- the file has the function, whose slots are loaded, as the first says
-abbrev pub IsFunctionLoaded : (List ℕ → Subject → Type 0) → (file name : List ℕ) → Subject → Type 0
-IsFunctionLoaded loads file name s = (f : Function) × IsWanted file name f × loads f.code.now s
 
 -- the line of C that holds at a slot of a function; of no slot there is none
 abbrev pub IsLineAt : List ℕ → Place → Option ℕ → Option HoldingLine → Type 0
@@ -55,9 +49,3 @@ pub record IsFaultReported (file : List ℕ) (e : ObjectFault) (room text : List
   pub line : Option HoldingLine
   pub line_is : IsLineOfFault file e line
   pub reported_as : IsReported (object_code e) (fault_slot e) (fault_line e ++ line_under line) room text filled
-
--- the file has the function, whose slots are refused, as the first says, or has no such program
-abbrev pub IsFunctionRefused : (List ℕ → Refusal → Type 0) → (file name : List ℕ) (room text : List ℕ) → Refused → Type 0
-IsFunctionRefused refuses file name room text filled =
-    ((f : Function) × IsWanted file name f × IsRefusalReported (refuses f.code.now) (IsLineAt file f.place) room text filled)
-    ⊎ ((e : ObjectFault) × IsWantedFault file name e × IsFaultReported file e room text filled)

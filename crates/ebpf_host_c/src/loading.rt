@@ -1,12 +1,14 @@
 //! Loads, of slots and of a function of an object file, as they are or with their loops unrolled.
 
-ghost use Rattle.std.specs.Prelude.{◌≡◌, ◌≤◌, IfOk, IfErr, IfSome, length};
+ghost use Rattle.std.specs.Prelude.{◌≡◌, ◌≤◌, [], IfOk, IfErr, IfSome, length};
 ghost use Rattle.ebpf_host.specs.Loading.{IsFaultBy};
-ghost use Rattle.ebpf_host_c.specs.Loads.{IsLoadedBy, IsRefusedBy, LoadsFunction, LoadsIn};
+ghost use Rattle.ebpf_host_c.specs.Loads.{LoadsFunction, LoadsIn};
+ghost use Rattle.ebpf_host_c.specs.Ways.{IsLoadedBy, IsRefusedBy};
 
-use crate::reported::{InFile, Refused, report_fault, report_refusal};
+use crate::reported::{InFile, Refused, report_refusal};
 use crate::share::keep;
 use crate::status::{DECLARATION, NO_MEMORY, REFUSED};
+use crate::with_data::load_with_data;
 use ebpf_handle::program::ProgramHandle;
 use ebpf_host::program::Program;
 use ebpf_host::refusal::LoadFault;
@@ -30,9 +32,11 @@ pub(crate) struct Way {
     pub(crate) held: u32,
 }
 
-// The program of these slots.
-fn loaded(alloc: Global, code: &[u8], way: Way) -> Result<Program, LoadFault>
+/// The program of these slots.
+pub(crate) fn loaded(alloc: Global, code: &[u8], way: Way) -> Result<Program, LoadFault>
     ensures loaded { IfOk result (λ p. IsLoadedBy way.loops way.context way.held code.now p.verified) }
+    ensures declared { IfOk result (λ p. p.verified.decl.context ≡ way.context) }
+    ensures alone { IfOk result (λ p. p.data.items ≡ []) }
     ensures refused { IfErr result (IsFaultBy (IsRefusedBy way.loops way.context way.held code.now) way.context way.held) }
 {
     let Way {
@@ -71,7 +75,7 @@ pub(crate) fn load_slots(
     }
 }
 
-/// Loads a function of an object file into a handle.
+/// Loads a function of an object file into a handle: by itself, or else with the data that it reads.
 pub(crate) fn load_function(
     alloc: Global,
     program: &mut ProgramHandle,
@@ -90,9 +94,6 @@ pub(crate) fn load_function(
             let source = Some(InFile { file, place });
             load_slots(alloc, program, function.code, source, way, text, refused)
         }
-        Err(fault) => match report_fault(alloc, file, fault, text, refused) {
-            Ok(()) => REFUSED,
-            Err(AllocError) => NO_MEMORY,
-        },
+        Err(_) => load_with_data(alloc, program, file, name, way, text, refused),
     }
 }

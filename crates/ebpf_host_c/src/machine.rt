@@ -8,6 +8,7 @@ ghost use Rattle.std.specs.Arc.{arc_value};
 ghost use Rattle.std.specs.Option.{MatchOption};
 ghost use Rattle.vmem_arena.specs.declared.arena.TheConstants.{MAX_PAGES};
 ghost use Rattle.ebpf_host.specs.Stocks.{stock_of};
+ghost use Rattle.ebpf_host.specs.Whole.{whole};
 ghost use Rattle.ebpf_handle.specs.declared.view.ProgramView.{ProgramView};
 ghost use Rattle.ebpf_handle.specs.contracts.view.ProgramView.{the_row as view_row};
 ghost use Rattle.ebpf_host_c.specs.Handles.{IsRunReported, MachineGoes, PagesStay, ShelvesStay};
@@ -94,8 +95,8 @@ pub unsafe extern "C" fn ebpf_machine_run(
     ensures pages { MachineGoes PagesStay machine.old.value machine.new.value }
     ensures unchanged { result ≢ 0 → machine.new.value ≡ machine.old.value }
     ensures unmade { result ≢ 0 → (output.new ≡ output.old) × (report.new ≡ report.old) }
-    ensures context { result ≡ CONTEXT → MatchOption loan.2.value ⊥ (λ p. length context.now ≢ (arc_value p).verified.decl.context) }
-    ensures memory { result ≡ NO_MEMORY → MatchOption loan.2.value ⊥ (λ p. length context.now ≡ (arc_value p).verified.decl.context) }
+    ensures context { result ≡ CONTEXT → MatchOption loan.2.value ⊥ (λ p. length (whole (arc_value p) context.now) ≢ (arc_value p).verified.decl.context) }
+    ensures memory { result ≡ NO_MEMORY → MatchOption loan.2.value ⊥ (λ p. length (whole (arc_value p) context.now) ≡ (arc_value p).verified.decl.context) }
     ensures empty { MatchOption machine.old.value (result ≡ EMPTY) (λ _. MatchOption loan.2.value (result ≡ EMPTY) (λ _. (result ≡ DONE) ⊎ (result ≡ CONTEXT) ⊎ (result ≡ NO_MEMORY))) }
 {
     run_shown(
@@ -121,8 +122,8 @@ fn run_shown(
     ensures pages { MachineGoes PagesStay machine.old.value machine.new.value }
     ensures unchanged { result ≢ 0 → machine.new.value ≡ machine.old.value }
     ensures unmade { result ≢ 0 → (output.new ≡ output.old) × (report.new ≡ report.old) }
-    ensures context { result ≡ CONTEXT → MatchOption program.now.value ⊥ (λ p. length context.now ≢ (arc_value p).verified.decl.context) }
-    ensures memory { result ≡ NO_MEMORY → MatchOption program.now.value ⊥ (λ p. length context.now ≡ (arc_value p).verified.decl.context) }
+    ensures context { result ≡ CONTEXT → MatchOption program.now.value ⊥ (λ p. length (whole (arc_value p) context.now) ≢ (arc_value p).verified.decl.context) }
+    ensures memory { result ≡ NO_MEMORY → MatchOption program.now.value ⊥ (λ p. length (whole (arc_value p) context.now) ≡ (arc_value p).verified.decl.context) }
     ensures empty { MatchOption machine.old.value (result ≡ EMPTY) (λ _.
         MatchOption program.now.value (result ≡ EMPTY) (λ _. (result ≡ DONE) ⊎ (result ≡ CONTEXT) ⊎ (result ≡ NO_MEMORY))) }
 {
@@ -144,12 +145,12 @@ fn run_held(
     output: &mut [u64],
     report: &mut Reported,
 ) -> u32
-    ensures report { result ≡ DONE → IsReportWritten machine.old machine.new program.now.verified context.now limit output.old output.new report.new }
+    ensures report { result ≡ DONE → IsReportWritten machine.old machine.new program.now.verified (whole program.now context.now) limit output.old output.new report.new }
     ensures pages { machine.new.arena.pages ≡ machine.old.arena.pages }
     ensures unchanged { result ≢ 0 → machine.new ≡ machine.old }
     ensures unmade { result ≢ 0 → (output.new ≡ output.old) × (report.new ≡ report.old) }
-    ensures context { result ≡ CONTEXT → length context.now ≢ program.now.verified.decl.context }
-    ensures memory { result ≡ NO_MEMORY → length context.now ≡ program.now.verified.decl.context }
+    ensures context { result ≡ CONTEXT → length (whole program.now context.now) ≢ program.now.verified.decl.context }
+    ensures memory { result ≡ NO_MEMORY → length (whole program.now context.now) ≡ program.now.verified.decl.context }
     ensures statuses { (result ≡ DONE) ⊎ (result ≡ CONTEXT) ⊎ (result ≡ NO_MEMORY) }
 {
     match machine.run_in_place(program, context, limit) {

@@ -54,7 +54,8 @@ pub extern "C" fn ebpf_program_load_unrolled(
 }
 
 /// Loads a function of an object file, that of a name or the file's only one where the name is empty, and otherwise does what
-/// [`ebpf_program_load`] does. A fault of the file is reported as a refusal is. Under the sentence of either is the line of C that holds
+/// [`ebpf_program_load`] does. If it reads constant data of the file, it is linked with that first, and the program keeps the data. A fault
+/// of the file, or of that link, is reported as a refusal is. Under the sentence of either is the line of C that holds
 /// at the slot, where the file has lines that can be read.
 #[unsafe(no_mangle)]
 pub extern "C" fn ebpf_program_load_elf(

@@ -20,7 +20,7 @@ pub struct Refused {
     /// The letter of the stage that refuses them, `I`, `F` or `V`, or `O` for an object file, and the digits after it; zero where there
     /// is none.
     pub code: [u8; 4],
-    /// The slot that is at fault, as [`Refusal`] has it, or 0 where the file is.
+    /// The slot that is at fault, as [`Refusal`] has it, or 0 where the file is, or a link that fails at none.
     pub slot: u32,
     /// How many bytes the sentence and the line of C under it have, without the zero after them.
     pub length: u64,
@@ -78,8 +78,14 @@ fn copy_ended(sentence: &[u8], text: &mut [u8])
     }
 }
 
-// Tells a code, a slot and a sentence.
-fn report_as(code: &str, slot: u32, sentence: &[u8], text: &mut [u8], refused: &mut Refused)
+/// Tells a code, a slot and a sentence.
+pub(crate) fn report_as(
+    code: &str,
+    slot: u32,
+    sentence: &[u8],
+    text: &mut [u8],
+    refused: &mut Refused,
+)
     ensures { IsReported code.now slot sentence.now text.old text.new refused.new }
 {
     let mut letters = [0; 4];
@@ -108,8 +114,11 @@ fn slot_of(fault: ObjectFault<'_>) -> u32
     }
 }
 
-// Adds a line of C to a sentence, where there is one.
-fn add_line(sentence: &mut String, holding: Option<HoldingLine<'_>>) -> Result<(), AllocError>
+/// Adds a line of C to a sentence, where there is one.
+pub(crate) fn add_line(
+    sentence: &mut String,
+    holding: Option<HoldingLine<'_>>,
+) -> Result<(), AllocError>
     ensures { OnOk result (string_bytes sentence.new ≡ string_bytes sentence.old ++ line_under holding.entry) }
 {
     match holding {
@@ -118,8 +127,8 @@ fn add_line(sentence: &mut String, holding: Option<HoldingLine<'_>>) -> Result<(
     }
 }
 
-// The line of C that holds at a slot, if the slots are a function's.
-fn line_in<'a>(source: Option<InFile<'a>>, slot: Option<u16>) -> Option<HoldingLine<'a>>
+/// The line of C that holds at a slot, if the slots are a function's.
+pub(crate) fn line_in<'a>(source: Option<InFile<'a>>, slot: Option<u16>) -> Option<HoldingLine<'a>>
     requires { IfSome source (λ f. f.place.from ≤ length f.file.now) }
     ensures { IsLineIn source.entry slot result }
 {

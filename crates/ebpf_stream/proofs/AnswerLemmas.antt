@@ -1,11 +1,13 @@
 -- What one line is answered.
 use Rattle.std.proofs.Common.{◌≡◌, ℕ, zero, suc, ◌+◌, ◌<◌, List, [], ◌∷◌, ◌++◌, length, map, slice_get, get_or, Option, Some, None, Result}
 use Rattle.std.proofs.Common.{Ok, Err, OnOk, refl, sym, subst, arith}
-use Rattle.std.specs.Prelude.{IfSome, IfNone}
+use Rattle.std.proofs.lemmas.List.Elements.{All-push}
+use Rattle.std.specs.Prelude.{All, IfSome, IfNone}
 use Rattle.ebpf_insn.specs.Program.{instructions}
 use Rattle.ebpf_verify.specs.Subject.{Subject}
 use Rattle.ebpf_machine.specs.declared.report.Report.{Report}
 use Rattle.ebpf_machine.specs.Whole.{IsReportOf}
+use Rattle.ebpf_host.specs.declared.program.Program.{Program}
 use Rattle.ebpf_host.specs.Reports.{IsCutOff, IsReportWithin}
 use Rattle.job_list.specs.declared.jobs.Job.{Job}
 use Rattle.ebpf_reader.specs.JobLines.{job_of, stream_shape}
@@ -47,3 +49,8 @@ pub answered_job : {T E : Type 0} (r : Result T E) (s : Setting) (line : List �
     → OnOk r ((here : List ℕ) × IsAnswered s line a b here × (new ≡ old ++ here))
 answered_job (Err e) s line job a b old new fine is h = tt
 answered_job (Ok x) s line job a b old new fine is h = (h.0, answered_as s line (Some job) a b h.0 fine is h.1, h.2)
+
+-- one more program without data
+pub alone_pushed : (programs : List Program) (p : Program) → All (λ q. q.data.items ≡ []) programs → p.data.items ≡ []
+    → All (λ q. q.data.items ≡ []) (programs ++ p ∷ [])
+alone_pushed programs p all none = All-push (λ (q : Program). q.data.items ≡ []) programs p all none

@@ -1,5 +1,7 @@
 //! Programs that are loaded, and their runs.
 
+ghost use Rattle.std.specs.Prelude.{◌≡◌};
+
 use ebpf_host::machine::Machine;
 use ebpf_host::program::Program;
 use ebpf_host::refusal::LoadFault;
@@ -34,6 +36,9 @@ const FETCH: &str = "\
 b701000001000000b70200000000000085000000040000001500050000000000bf060000000000007961000000000000\
 8500000003000000bf610000000000008500000002000000b7000000000000009500000000000000";
 
+// Returns four bytes of the context.
+const READ: &str = "61100000000000009500000000000000";
+
 // Counts down from 3 in a loop, and returns 0.
 const COUNT: &str = "b70000000300000017000000010000005500feff000000009500000000000000";
 
@@ -42,7 +47,9 @@ fn bytes_of(rt: &impl Abort, alloc: Global, digits: &str) -> Vec<u8> {
 }
 
 // A program that is accepted.
-fn loaded(rt: &impl Abort, alloc: Global, digits: &str, context: u32, held: u32) -> Program {
+fn loaded(rt: &impl Abort, alloc: Global, digits: &str, context: u32, held: u32) -> Program
+    ensures { result.verified.decl.context ≡ context }
+{
     let bytes = bytes_of(rt, alloc, digits);
     match Program::load(alloc, &bytes, context, held) {
         Ok(program) => program,
@@ -230,7 +237,7 @@ fn what_a_run_leaves_on_a_shelf_is_there_for_the_next(rt: HostRuntime) {
 #[test]
 fn what_is_refused_is_told_why(rt: HostRuntime) {
     let alloc = rt.alloc();
-    let bytes = bytes_of(&rt, alloc, "61100000000000009500000000000000");
+    let bytes = bytes_of(&rt, alloc, READ);
     assert!(rt;
         matches!(
             Program::load(alloc, &bytes, 4097, 0),
@@ -244,7 +251,7 @@ fn what_is_refused_is_told_why(rt: HostRuntime) {
         }
         _ => panic!(rt; "it is not refused"),
     }
-    assert!(rt; loaded(&rt, alloc, "61100000000000009500000000000000", 4, 0).context() == 4);
+    assert!(rt; loaded(&rt, alloc, READ, 4, 0).context() == 4);
 }
 
 #[test]
@@ -260,5 +267,32 @@ fn a_loop_is_unrolled(rt: HostRuntime) {
         "",
         100,
         "exit 0 executed 8 peak 0",
+    );
+}
+
+#[test]
+fn the_data_of_a_program_comes_after_the_context(rt: HostRuntime) {
+    let alloc = rt.alloc();
+    let mut machine = machine_of(&rt, alloc, 1);
+    let after = Vec::from_array(alloc, [1, 0, 0]).expect(&rt, "no memory");
+    let read = loaded(&rt, alloc, READ, 4, 0).with_data(after);
+    assert!(rt; read.context() == 1 && read.data().len() == 3 && read.verified().len() == 2);
+    runs(
+        &rt,
+        alloc,
+        &mut machine,
+        &read,
+        "07",
+        100,
+        "exit 263 executed 2 peak 0",
+    );
+    runs(
+        &rt,
+        alloc,
+        &mut machine,
+        &read,
+        "07010000",
+        100,
+        "the context doesn't have the declared length",
     );
 }

@@ -2,6 +2,8 @@ use Rattle.std.proofs.Common.{◌∙◌, ap, inr, subst, sym}
 use Rattle.std.proofs.lemmas.Result.{IfOk-weaker, IfErr-weaker}
 use Rattle.ebpf_machine.specs.World.{kinds_of}
 use Rattle.ebpf_machine.proofs.Instructions.KindLemmas.{kinds_known}
+use Rattle.ebpf_verify.specs.declared.decl.Decl.{Decl}
+use Rattle.ebpf_verify.specs.Subject.{Subject}
 use Rattle.ebpf_verify.specs.Verdict.{IsAccepted}
 use Rattle.ebpf_forward.specs.declared.forward.Forward.TheVariants.{LaidOut, Unrolled}
 use Rattle.ebpf_forward.specs.Forward.{IsForward}
@@ -33,5 +35,10 @@ pub returns-in-Ok-Unrolled-clause-loaded : goal.returns-in-Ok-Unrolled-clause-lo
 returns-in-Ok-Unrolled-clause-loaded c = record {
   made = Unrolled c.in-Ok-Unrolled.unrolled;
   is = subst (IsForward c.args.program.now c.args.decl c.args.kinds.now) c.in-Ok-Unrolled.field-0-is c.in-Ok-Unrolled.ensures.forward;
-  loaded = (c.of.ensures, subst IsAccepted (sym c.of.ensures) c.program.ensures.accepted);
+  loaded = (c.of.ensures.verified, subst IsAccepted (sym c.of.ensures.verified) c.program.ensures.accepted);
 }
+
+pub returns-in-Ok-Unrolled-clause-declared : goal.returns-in-Ok-Unrolled-clause-declared
+returns-in-Ok-Unrolled-clause-declared c =
+    let is = subst (IsForward c.args.program.now c.args.decl c.args.kinds.now) c.in-Ok-Unrolled.field-0-is c.in-Ok-Unrolled.ensures.forward in
+    ap (λ (s : Subject). s.decl.context) c.of.ensures.verified ∙ ap (λ (d : Decl). d.context) is.declared

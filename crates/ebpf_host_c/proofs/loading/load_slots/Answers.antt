@@ -1,16 +1,18 @@
 use Rattle.std.proofs.Common.{rules, refl, subst}
 use Rattle.ebpf_host.specs.declared.refusal.Refusal.{Refusal}
 use Rattle.ebpf_host.specs.Loading.{IsFaultBy}
-use Rattle.ebpf_host_c.specs.Loads.{IsRefusedBy}
+use Rattle.ebpf_host_c.specs.Ways.{IsLoadedAlone, IsLoadedBy, IsRefusedBy}
 use Rattle.ebpf_host_c.specs.Objects.{IsLineIn}
 use Rattle.ebpf_host_c.specs.Reported.{IsReportedWith}
 use Rattle.ebpf_host_c.proofs.InRange.{loaded_in_range, refused_in_range}
+use Rattle.ebpf_host_c.proofs.Holding.{kept_as}
 use Rattle.ebpf_host_c.proofs.loading.load_slots.Goals as goal
 
 pub returns-in-Ok : goal.returns-in-Ok
 returns-in-Ok c =
     let way = c.args.way in record {
-      loaded = search rules;
+      loaded = λ done. kept_as (IsLoadedAlone (IsLoadedBy way.loops way.context way.held c.args.code.now)) c.in-Ok.loaded c.keep.new.program.value
+          (c.keep.ensures.kept done) (record { none = c.in-Ok.ensures.alone; is = c.in-Ok.ensures.loaded });
       refused = search rules;
       untold = λ _. (refl, refl);
       declaration = search rules;

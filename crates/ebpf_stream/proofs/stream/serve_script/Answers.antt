@@ -34,8 +34,9 @@ pub invariant_of-setup : goal.invariant_of-setup
 invariant_of-setup g c = record {
   declared =
       contexts_of c.in_ok-load_all.field-0.items
-      ∙ (ap (λ (ss : List Subject). map (λ (s : Subject). s.decl.context) ss) c.in_ok-load_all.ensures
+      ∙ (ap (λ (ss : List Subject). map (λ (s : Subject). s.decl.context) ss) c.in_ok-load_all.ensures.verified
       ∙ contexts_kept _ _ c.in_ok-verdicts.verdicts c.in_ok-verdicts.ensures c.if-verdicts.false);
+  alone = c.in_ok-load_all.ensures.alone;
 }
 
 -- the reader was served by the programs that were loaded, where this text waited
@@ -48,15 +49,15 @@ ServesOn g c waited result =
 pub returns-in-Err-clause-stopped : goal.returns-in-Err-clause-stopped
 returns-in-Err-clause-stopped g c = λ other.
     let waits = subst (λ (xs : List ℕ). ServesOn g (goal.at.returns-in-Err-clause-stopped g c).After-serve xs (Err c.in-Err.fault)) c.new.ensures.text c.in-Err.ensures.served in
-    inr (writes_first c.args.format (parsed_script c.args.script) c.in_ok-verdicts.verdicts c.in_ok-verdicts.ensures _ c.in_ok-load_all.ensures c.if-verdicts.false c.in-Err.fault Refused _ _ _ (position_of c.serve.new.feed.answers) waits other)
+    inr (writes_first c.args.format (parsed_script c.args.script) c.in_ok-verdicts.verdicts c.in_ok-verdicts.ensures _ c.in_ok-load_all.ensures.verified c.if-verdicts.false c.in-Err.fault Refused _ _ _ (position_of c.serve.new.feed.answers) waits other)
 
 pub returns-in-Err-clause-beginning : goal.returns-in-Err-clause-beginning
 returns-in-Err-clause-beginning g c =
     let waits = subst (λ (xs : List ℕ). ServesOn g (goal.at.returns-in-Err-clause-beginning g c).After-serve xs (Err c.in-Err.fault)) c.new.ensures.text c.in-Err.ensures.served in
-    begins_part c.args.format (parsed_script c.args.script) c.in_ok-verdicts.verdicts c.in_ok-verdicts.ensures _ c.in_ok-load_all.ensures c.if-verdicts.false c.in-Err.fault Refused _ _ _ (position_of c.serve.new.feed.answers) waits
+    begins_part c.args.format (parsed_script c.args.script) c.in_ok-verdicts.verdicts c.in_ok-verdicts.ensures _ c.in_ok-load_all.ensures.verified c.if-verdicts.false c.in-Err.fault Refused _ _ _ (position_of c.serve.new.feed.answers) waits
 
 pub returns-clause-response : goal.returns-clause-response
 returns-clause-response g c =
     let waits = subst (λ (xs : List ℕ). ServesOn g (goal.at.returns-clause-response g c).After-serve xs (Ok tt)) c.new.ensures.text c.in_default.ensures.served in
     subst (λ (d : Done). Writes (RespondsTo c.args.format (parsed_script c.args.script)) (g.I.Read.remaining c.args.reader.now) (g.W.Write.contents c.args.writer.now) (g.W.Write.contents c.serve.new.writer) (Ok d)) (sym c.done_by.ensures)
-    (writes_all c.args.format (parsed_script c.args.script) c.in_ok-verdicts.verdicts c.in_ok-verdicts.ensures _ c.in_ok-load_all.ensures c.if-verdicts.false _ _ _ (position_of c.serve.new.feed.answers) waits)
+    (writes_all c.args.format (parsed_script c.args.script) c.in_ok-verdicts.verdicts c.in_ok-verdicts.ensures _ c.in_ok-load_all.ensures.verified c.if-verdicts.false _ _ _ (position_of c.serve.new.feed.answers) waits)

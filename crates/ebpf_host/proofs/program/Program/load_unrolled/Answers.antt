@@ -1,4 +1,4 @@
-use Rattle.std.proofs.Common.{subst}
+use Rattle.std.proofs.Common.{◌∙◌, subst}
 use Rattle.std.proofs.lemmas.Result.{IfOk-weaker, IfErr-weaker}
 use Rattle.ebpf_insn.specs.Decoding.{IsDecodeFault}
 use Rattle.ebpf_host.proofs.Forwarding.{forward_fault}
@@ -17,6 +17,11 @@ returns-in-Ok-clause-loaded c =
       made_as = h;
     })
     c.load_decoded.ensures.loaded
+
+pub returns-in-Ok-clause-declared : goal.returns-in-Ok-clause-declared
+returns-in-Ok-clause-declared c =
+    let value = c.in-Some.ensures.value in
+    IfOk-weaker c.load_decoded.result _ _ (λ p h. h ∙ value.0) c.load_decoded.ensures.declared
 
 pub returns-in-Ok-clause-refused : goal.returns-in-Ok-clause-refused
 returns-in-Ok-clause-refused c =
