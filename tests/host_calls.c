@@ -247,16 +247,56 @@ static void each_object(char **paths) {
     assert(refuses("", 16, "O1", 0, "  the file has fewer than the 64 bytes of an ELF header\n"));
     char room[6] = "......";
     assert(ebpf_program_load_elf(&program, object, 0, "", 0, 16, 0, room, 4, &refusal) == EBPF_REFUSED && !memcmp(room, "  th..", 6));
-    read_object(paths[1]);
-    assert(refuses("", 1, "O4", 3, "  slot 3 uses weights, a table outside the function: "));
     read_object(paths[2]);
     assert(refuses("entry", 12, "O4", 3, "  slot 3 calls twice, a function of the file: "));
     assert(run(numbers, 100) == EBPF_DONE && report.exit == 5); /* what was loaded last is kept */
     read_object(paths[3]);
     assert(load_function("", 20, 0) == EBPF_DONE && run(numbers, 100) == EBPF_CONTEXT);
     each_line(paths[0], "largest", "V8", 7, "\n  ./two.c:14:7: if (words[i] > most)\n");
-    each_line(paths[1], "", "O4", 3, "\n  ./table.c:7:9: sum += weights[at];\n");
     each_line(paths[2], "entry", "O4", 3, "\n  ./call.c:9:10: u64 a = twice(words[0], words[1]);\n");
+    ebpf_machine_free(&machine);
+    ebpf_program_free(&program);
+}
+
+/* the functions of tests/objects/table.c and of host_tables.c, compiled for this machine */
+uint64_t weigh(const uint8_t *bytes), of_tables(const uint8_t *bytes), sum_of_primes(const uint8_t *bytes);
+
+/* The loaded function ends on many contexts of 8 bytes as the C does. The bytes are those of a generator with few small numbers. */
+static void ends_as(uint64_t (*native)(const uint8_t *)) {
+    uint64_t seed = 1;
+    for (int i = 0; i < 2000; i++) {
+        uint8_t context[8];
+        for (int at = 0; at < 8; at++) seed = seed * 6364136223846793005u + 1442695040888963407u, context[at] = (uint8_t)(seed >> 56);
+        assert(ebpf_machine_run(&machine, &program, context, 8, 4096, output, 4, &report) == EBPF_DONE);
+        assert(report.exited && report.exit == native(context) && report.outputs == 0);
+    }
+}
+
+/* functions that read tables and strings of their file: the files are table.o and host_tables.o */
+static void each_table(const char *one, const char *several) {
+    assert(ebpf_machine_new(&machine, 1) == EBPF_DONE);
+    for (unrolls = 1; unrolls >= 0; unrolls--) {
+        read_object(one);
+        assert(load_function("", 1, 0) == EBPF_DONE && run("05", 9) == EBPF_DONE && report.exit == 9 && report.executed == 9);
+        assert(run("", 9) == EBPF_CONTEXT && run("0500", 9) == EBPF_CONTEXT && run("0500000000000000", 9) == EBPF_CONTEXT);
+        assert(load(READ, 4, 0) == EBPF_DONE && run("07000000", 9) == EBPF_DONE && report.exit == 7); /* without data, on the same machine */
+        assert(load_function("weigh", 8, 64) == EBPF_DONE);
+        ends_as(weigh);
+        assert(load_function("", 4097, 0) == EBPF_DECLARATION && load_function("", 1, 65) == EBPF_DECLARATION);
+        assert(load_function("weight", 1, 0) == EBPF_REFUSED && !strcmp(refusal.code, "O2"));
+        assert(load_function("", 4064, 0) == EBPF_DONE); /* and 32 bytes of data */
+        assert(refuses("", 4065, "O5", 0, "  the context has 4065 bytes and the data 32, more than 4096 together: .rodata.cst32 has 32\n"));
+        read_object(several);
+        assert(refuses("beyond", 8, "V8", 6, "  slot 6 reads 4 bytes") && ends("\n  ./host_tables.c:31:12: return primes[bytes[0]] + 1;\n"));
+        assert(load_function("of_tables", 8, 0) == EBPF_DONE);
+        ends_as(of_tables);
+    }
+    unrolls = 0;
+    assert(load_function("sum_of_primes", 8, 0) == EBPF_REFUSED && refusal.code[0] == 'F');
+    unrolls = 1;
+    assert(load_function("sum_of_primes", 8, 0) == EBPF_DONE);
+    ends_as(sum_of_primes);
+    unrolls = 0;
     ebpf_machine_free(&machine);
     ebpf_program_free(&program);
 }
@@ -347,6 +387,34 @@ static long each_allocation(const char *name, ebpf_status status) {
     long allocations = 0;
     while (function_served(name, allocations, status)) allocations++;
     return allocations;
+}
+
+/* The first run of a program with data, with n allocations served. Whether one was refused. */
+static int run_served(long allocations) {
+    assert(ebpf_machine_new(&machine, 1) == EBPF_DONE);
+    refused = 0;
+    left = allocations;
+    ebpf_status status = run("05000000000000000000000000000000", 100);
+    left = -1;
+    assert(status == (refused ? EBPF_NO_MEMORY : EBPF_DONE));
+    assert(run("05000000000000000000000000000000", 100) == EBPF_DONE && report.exit == 9);
+    ebpf_machine_free(&machine);
+    return refused;
+}
+
+/* The allocations of loads of functions that read data, as they are and unrolled, of one that is refused, and of a run. */
+static long each_allocation_of_tables(const char *one, const char *several) {
+    read_object(several);
+    unrolls = 1;
+    long of_loop = each_allocation("sum_of_primes", EBPF_DONE);
+    unrolls = 0;
+    long of_tables = each_allocation("of_tables", EBPF_DONE), of_refusal = each_allocation("sum_of_primes", EBPF_REFUSED), of_run = 0;
+    read_object(one);
+    assert(load_function("", 16, 0) == EBPF_DONE);
+    while (run_served(of_run)) of_run++;
+    ebpf_program_free(&program);
+    assert(of_loop > 10 && of_tables > 10 && of_refusal > 10 && of_run > 1);
+    return of_loop + of_tables + of_refusal + of_run;
 }
 
 /* two handles of one program, freed in either order; a full handle lets go of what it held */
@@ -487,7 +555,7 @@ static long each_allocation_of_loops(void) {
 }
 
 int main(int count, char **words) {
-    assert(count == 7);
+    assert(count == 8);
     for (unrolls = 1; unrolls >= 0; unrolls--) {
         each_status();
         each_object(words + 2);
@@ -496,6 +564,7 @@ int main(int count, char **words) {
     unsigned refusals = each_refusal(words[1]);
     a_short_text();
     each_loop();
+    each_table(words[3], words[7]);
     a_function_laid_out(words[2]);
     a_function_unrolled(words[6]);
     shares();
@@ -509,7 +578,7 @@ int main(int count, char **words) {
     read_object(words[2]);
     long loads = each_allocation("largest", EBPF_DONE), faults = each_allocation("", EBPF_REFUSED);
     assert(loads > 5 && faults > 0);
-    allocations += loads + faults + of_share + each_allocation_of_loops();
+    allocations += loads + faults + of_share + each_allocation_of_loops() + each_allocation_of_tables(words[3], words[7]);
     printf("host: %u refused programs, %ld refused allocations, %ld of a share\n", refusals, allocations, of_share);
     return 0;
 }

@@ -13,8 +13,9 @@ NATIVE = TESTS / 'compilers/native.c'
 # the compilers for eBPF, each with what it may be called and with its options
 OPTIONS = {('clang',): ['-target', 'bpfel'], ('bpf-gcc', 'bpf-unknown-none-gcc'): ['-ffreestanding']}
 
-# the C files of examples that have loops: tests/loops has them, and tests/compiled the others
+# the C files of examples that have loops, and those that read data of their file: tests/loops and tests/tables have them, and tests/compiled the others
 LOOPING = ['adler', 'crc', 'decimal', 'rows']
+READING = ['digest', 'method']
 
 
 class Outcome(NamedTuple):

@@ -29,6 +29,7 @@ FORMS = {
     'of': '  added\n',
     'hex': '{hex}\n',
     'hex of': '{hex}\n',
+    'hex of data': '{hex}\n{data}\n',
     'loop why': 'loop {loop[from]} {loop[to]}\n  {why}\n',
     'loop turns why exits': 'loop {loop[from]} {loop[to]}\n  {why}\n{ways_out}',
     'refused slot why visit known': 'refused {refused} {slot}\n  {why}\n  before slot {slot}, at visit {visit}:  {known}\n',

@@ -4,12 +4,16 @@ import struct
 from typing import NamedTuple
 
 from built import TESTS, TOP
+from compilers import READING
 
 FILES = [*sorted(TESTS.glob('objects/*.o')), *sorted(TOP.glob('examples/*.o'))]
 
 # those of other compilers; of each one, a file that is damaged too
 KEPT = sorted(TESTS.glob('objects/kept/*.o'))
-DAMAGED = [*FILES, *(path for path in KEPT if path.name.startswith('section-O2-g.'))]
+DAMAGED = [*(path for path in FILES if path.stem not in READING), *(path for path in KEPT if path.name.startswith('section-O2-g.'))]
+
+# the commands that take a function with the data that it reads, of those of tests/object-files; the others refuse it with O4
+LINKING = {'one', 'list', 'explain', 'unroll'}
 
 # the fields of each header: the offset and the size of a number
 HEADER = [(4, 1), (5, 1), (6, 1), (16, 2), (18, 2), (20, 4), (32, 8), (40, 8), (52, 2), (58, 2), (60, 2), (62, 2)]
@@ -89,6 +93,16 @@ def numbers_of(data):
     return [(start + at, size) for start, fields in places for at, size in fields]
 
 
+def places_of_data(data, function):
+    """The offset of each byte that says which data a function reads: of the section headers, the symbols and its section's relocations."""
+    headers = sections_of(data)
+    tables = [(at, 64) for at in headers] + [(at, 24) for at in parts(data, {2}, 24)]
+    for header in headers:
+        if number(data, header + 4, 4) == 9 and number(data, header + 44, 4) == function.section:
+            tables.append(contents(data, header))
+    return [at for start, length in tables for at in range(start, start + length)]
+
+
 def numbers_of_lines(data):
     """The same of what says which line of C a slot has."""
     headers, found = sections_of(data), []
@@ -103,8 +117,11 @@ def numbers_of_lines(data):
 
 
 def values_of(data, size):
-    """What a number of that many bytes is changed to: 0, 1, the greatest, the length of the file, and one less and more."""
-    return [0, 1, 256 ** size - 1, len(data) - 1, len(data), len(data) + 1]
+    """What a number of that many bytes is changed to: 0, 1, 7, half the greatest and the greatest of so many bytes and of half of them, the length
+    of the file, and one less and more."""
+    most = 256 ** size
+    values = [0, 1, 7, most // 2, most - 1, 16 ** size // 2, 16 ** size - 1, len(data) - 1, len(data), len(data) + 1]
+    return sorted({value % most for value in values})
 
 
 def with_number(data, at, size, value):

@@ -23,12 +23,12 @@ const CASES: &str = "\
 an address is the context's pointer, moved | 1 | lddw r2, 0 / ldxb r0, [r2+0] / exit | -512: stxdw [r10-512], r1 / ldxdw r2, [r10-512] / add64 r2, 3 / ldxb r0, [r2+0] / exit
 an immediate without an offset stays | - | lddw r0, 7 / exit | -512: stxdw [r10-512], r1 / lddw r0, 7 / exit
 a jump leads where it led | - 0 | jeq64 r1, 0, done / lddw r2, 0 / done: exit | -512: stxdw [r10-512], r1 / jeq64 r1, 0, done / ldxdw r2, [r10-512] / add64 r2, 2 / done: exit
-a word that r10 reaches is not free | - 0 | stb [r10-505], 7 / lddw r2, 0 / ldxb r0, [r2+0] / exit | -504: stxdw [r10-504], r1 / stb [r10-505], 7 / \
-ldxdw r2, [r10-504] / add64 r2, 2 / ldxb r0, [r2+0] / exit
-a word that a copy of r10 writes is not taken | - - 0 | mov64 r3, r10 / stdw [r3-512], 7 / lddw r2, 0 / ldxb r0, [r2+0] / exit | -504: stxdw [r10-504], r1 / mov64 r3, r10 / \
-stdw [r3-512], 7 / ldxdw r2, [r10-504] / add64 r2, 2 / ldxb r0, [r2+0] / exit
-nor is one that it only reads, so the refusal without it is reported | - - 0 | mov64 r3, r10 / ldxdw r4, [r3-512] / lddw r2, 0 / ldxb r0, [r2+0] / exit | -504: stxdw [r10-504], r1 / mov64 r3, r10 / \
-ldxdw r4, [r3-512] / ldxdw r2, [r10-504] / add64 r2, 2 / ldxb r0, [r2+0] / exit
+a word that r10 reaches is not free | - 0 | stb [r10-505], 7 / lddw r2, 0 / ldxb r0, [r2+0] / exit | -384: stxdw [r10-384], r1 / stb [r10-505], 7 / \
+ldxdw r2, [r10-384] / add64 r2, 2 / ldxb r0, [r2+0] / exit
+a word that a copy of r10 writes is not taken | - - 0 | mov64 r3, r10 / stdw [r3-512], 7 / lddw r2, 0 / ldxb r0, [r2+0] / exit | -384: stxdw [r10-384], r1 / mov64 r3, r10 / \
+stdw [r3-512], 7 / ldxdw r2, [r10-384] / add64 r2, 2 / ldxb r0, [r2+0] / exit
+nor is one that it only reads, so the refusal without it is reported | - - 0 | mov64 r3, r10 / ldxdw r4, [r3-512] / lddw r2, 0 / ldxb r0, [r2+0] / exit | -384: stxdw [r10-384], r1 / mov64 r3, r10 / \
+ldxdw r4, [r3-512] / ldxdw r2, [r10-384] / add64 r2, 2 / ldxb r0, [r2+0] / exit
 a program that is refused with each word has the first | 9 | lddw r2, 0 / ldxb r0, [r2+0] / exit | -512: stxdw [r10-512], r1 / ldxdw r2, [r10-512] / add64 r2, 11 / ldxb r0, [r2+0] / exit
 a loop is linked | 0 | lddw r2, 0 / turn: ja turn | -512: stxdw [r10-512], r1 / ldxdw r2, [r10-512] / add64 r2, 2 / turn: ja turn
 an address before the context may be near | -3 | lddw r2, 0 / exit | -512: stxdw [r10-512], r1 / ldxdw r2, [r10-512] / add64 r2, -1 / exit

@@ -3,9 +3,10 @@
 use crate::object_file::object;
 use crate::programs::{holds, is_text};
 use ebpf_command::judge::{Judged, judge};
+use ebpf_link::fault::LinkFault;
 use ebpf_loader::fault::LoadFault;
 use ebpf_loader::load::{Loaded, load};
-use ebpf_loader::sentence::write_sentence;
+use ebpf_loader::sentence::{write_sentence, write_unlinked};
 use ebpf_machine::run::Run;
 use ebpf_object_file::data_function::{DataFault, DataFunction, function_with_data};
 use ebpf_shelves::store::Store;
@@ -92,4 +93,12 @@ fn data_needs_room(rt: HostRuntime) {
     let words = "the context has 4065 bytes and the data 32, more than 4096 together: .rodata.cst32 has 32";
     is_text(&rt, "too much", text.as_str(), words);
     holds(&rt, "too much", matches!(fault, LoadFault::TooLong { .. }));
+}
+
+#[test]
+fn a_fault_of_a_link_is_told(rt: HostRuntime) {
+    let mut text = String::new(rt.alloc());
+    write_unlinked(&mut text, LinkFault::Far { slot: 3 }).expect(&rt, "out of memory");
+    let words = "slot 3 has an address more than 4096 bytes away from the context's first byte";
+    is_text(&rt, "a far address", text.as_str(), words);
 }

@@ -21,7 +21,10 @@ explain | two | checksum |   r1 context+0  r10 stack+0
 lay-out | two | checksum | 611204000000000061100000000000000f2000000000000061120800000000000f2000000000000061110c00000000000f100000000000009500000000000000
 one | two | nobody | fault O2 line 0
 list | two | - | fault O3 line 0
-explain | table | - | fault O4 line 0
+one | table | - | accepted 9
+list | table | - | 0: ldxb r1, [r1+0]
+explain | table | - |   added
+lay-out | table | - | fault O4 line 0
 lay-out | none | - | fault O1 line 0";
 
 // The context of each.
