@@ -18,6 +18,7 @@ pub mod Shelves
 pub mod Concretization
 pub mod Sound
 pub mod Step
+pub mod Fixed
 pub mod Flows
 pub mod Operating
 pub mod Turns

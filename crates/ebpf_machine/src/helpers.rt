@@ -1,19 +1,20 @@
 //! Calls of helpers (RFC 9669, section 4.3.1): each takes its arguments in r1 and r2 and leaves its result in r0, and r1 to r5 are
-//! lost. The accepted program that is passed to each is there for its contract, and is not read.
+//! lost. What a run never changes is passed to each for its contract, and is not read.
 
 ghost use Rattle.std.specs.Prelude.{◌≡◌, ◌≤◌, ◌<◌, ◌+◌, ◌++◌, ◌∷◌, ℕ, ℤ, pos, max, map, Contains, List, [], length, None, Some, IfSome, slice_index_or};
 ghost use Rattle.ebpf_insn.specs.declared.program.TheConstants.{MAX_SLOTS};
 ghost use Rattle.ebpf_operation.specs.declared.helper.Helper.{Helper};
-ghost use Rattle.ebpf_verify.specs.Subject.{Subject};
+ghost use Rattle.ebpf_machine.specs.declared.fixed.Fixed.{Fixed};
 ghost use Rattle.ebpf_machine.specs.Burst.{moved};
 ghost use Rattle.ebpf_machine.specs.Flows.{HoldsNumber, object_in};
 ghost use Rattle.ebpf_machine.specs.RunState.{Calls, IsCallThere, IsSwapThere, gone_on, emitted, holding_too, with_taken};
 ghost use Rattle.ebpf_machine.specs.Parting.{HasParted};
 ghost use Rattle.ebpf_machine.specs.Step.{IsFree};
 ghost use Rattle.ebpf_machine.specs.World.{kinds_of};
-ghost use Rattle.ebpf_machine.specs.Parts.{state_of, largest, HasCapacity, HasRoomAt, HasRoomFrom};
+ghost use Rattle.ebpf_machine.specs.Parts.{state_with, largest, HasCapacity, HasRoomAt, HasRoomFrom};
 ghost use Rattle.ebpf_machine.specs.Advance.{IsReady, IsAdvanced};
 
+use crate::fixed::Fixed;
 use crate::holding::{Holding, place_of, take_at};
 use crate::objects::Objects;
 use crate::parts::Parts;
@@ -21,46 +22,45 @@ use crate::report::Reply;
 use crate::value::{Base, Value};
 use ebpf_insn::register::Reg;
 use ebpf_operation::helper::Helper;
-use ebpf_verify::verified::Verified;
 
 /// Does a call of a helper, but of `emit`.
 ///
 /// Out of line: what it keeps in registers is not saved at the start of a run that makes no call.
 #[inline(never)]
 pub(crate) fn call<O: Objects>(
-    verified: &Verified,
+    fixed: &Fixed<'_>,
     parts: &mut Parts<O::Held>,
     helper: Helper,
     objects: &mut O,
 )
-    requires kinds { O.store.kinds ≡ kinds_of verified.now.rows }
-    requires ready { IsReady O.store (state_of verified.now parts.old) objects.old }
-    requires at { Calls (state_of verified.now parts.old) helper }
+    requires kinds { O.store.kinds ≡ kinds_of fixed.now.verified.now.rows }
+    requires ready { IsReady O.store (state_with fixed.now parts.old) objects.old }
+    requires at { Calls (state_with fixed.now parts.old) helper }
     requires another { helper ≡ Helper.Emit → ⊥ }
     requires can_give { IsFree (Some helper) → O.store.can_give objects.old }
-    requires room { HasCapacity verified.now parts.old }
-    ensures advanced { IsAdvanced O.store (state_of verified.now parts.old) (state_of verified.now parts.new) objects.old objects.new }
+    requires room { HasCapacity fixed.now.verified.now parts.old }
+    ensures advanced { IsAdvanced O.store (state_with fixed.now parts.old) (state_with fixed.now parts.new) objects.old objects.new }
     ensures next { (parts.new.pc ≡ parts.old.pc + 1) × (parts.new.exit ≡ None) }
-    ensures room { HasCapacity verified.now parts.new }
+    ensures room { HasCapacity fixed.now.verified.now parts.new }
 {
     match helper {
-        Helper::New => ask(verified, parts, objects),
-        Helper::Free => give_back(verified, parts, objects),
+        Helper::New => ask(fixed, parts, objects),
+        Helper::Free => give_back(fixed, parts, objects),
         Helper::Emit => unreachable!(),
-        Helper::Swap => swap(verified, parts, objects),
+        Helper::Swap => swap(fixed, parts, objects),
     }
 }
 
 /// Adds the number in r1 to the output. The run's pc and its count are left.
 #[inline(always)]
 pub(crate) fn emit<H>(parts: &mut Parts<H>)
-    requires called { (subject : Subject) × (pc : ℕ) × IsCallThere (moved pc 0 (state_of subject parts.old)) × HasRoomAt subject pc parts.old }
+    requires called { (fixed : Fixed) × (pc : ℕ) × IsCallThere (moved pc 0 (state_with fixed parts.old)) × HasRoomAt fixed.verified.now pc parts.old }
     requires found { HoldsNumber (slice_index_or parts.old.registers 1 None) }
-    ensures state { (subject : Subject) (n : ℕ) → slice_index_or parts.old.registers 1 None ≡ Some (Value.Number n) →
-        state_of subject parts.new ≡ emitted n (state_of subject parts.old) }
+    ensures state { (fixed : Fixed) (n : ℕ) → slice_index_or parts.old.registers 1 None ≡ Some (Value.Number n) →
+        state_with fixed parts.new ≡ emitted n (state_with fixed parts.old) }
     ensures kept { parts.new.exit ≡ parts.old.exit }
-    ensures room { (subject : Subject) (pc : ℕ) → IsCallThere (moved pc 0 (state_of subject parts.old)) →
-        HasRoomAt subject pc parts.old → HasRoomAt subject (pc + 1) parts.new }
+    ensures room { (fixed : Fixed) (pc : ℕ) → IsCallThere (moved pc 0 (state_with fixed parts.old)) →
+        HasRoomAt fixed.verified.now pc parts.old → HasRoomAt fixed.verified.now (pc + 1) parts.new }
 {
     let number = parts.registers.number(Reg::R1);
     parts.output.push_reserved(number);
@@ -68,38 +68,38 @@ pub(crate) fn emit<H>(parts: &mut Parts<H>)
 }
 
 // Asks for an object of the kind in r1.
-fn ask<O: Objects>(verified: &Verified, parts: &mut Parts<O::Held>, objects: &mut O)
-    requires kinds { O.store.kinds ≡ kinds_of verified.now.rows }
-    requires ready { IsReady O.store (state_of verified.now parts.old) objects.old }
-    requires at { Calls (state_of verified.now parts.old) Helper.New }
-    requires room { HasCapacity verified.now parts.old }
-    ensures advanced { IsAdvanced O.store (state_of verified.now parts.old) (state_of verified.now parts.new) objects.old objects.new }
+fn ask<O: Objects>(fixed: &Fixed<'_>, parts: &mut Parts<O::Held>, objects: &mut O)
+    requires kinds { O.store.kinds ≡ kinds_of fixed.now.verified.now.rows }
+    requires ready { IsReady O.store (state_with fixed.now parts.old) objects.old }
+    requires at { Calls (state_with fixed.now parts.old) Helper.New }
+    requires room { HasCapacity fixed.now.verified.now parts.old }
+    ensures advanced { IsAdvanced O.store (state_with fixed.now parts.old) (state_with fixed.now parts.new) objects.old objects.new }
     ensures next { (parts.new.pc ≡ parts.old.pc + 1) × (parts.new.exit ≡ None) }
-    ensures room { HasCapacity verified.now parts.new }
+    ensures room { HasCapacity fixed.now.verified.now parts.new }
 {
     let call = parts.pc as u16;
     let kind = parts.registers.number(Reg::R1) as u8;
     match objects.take(kind, call) {
         Some(object) => {
             let holding = Holding { call, kind, object };
-            hold(verified, parts, holding, Reply::Granted);
+            hold(fixed, parts, holding, Reply::Granted);
             let base = Base::Object(call);
-            answer(verified, parts, Value::Pointer { base, offset: 0 });
+            answer(fixed, parts, Value::Pointer { base, offset: 0 });
         }
         None => {
             parts.replies.push_reserved(Reply::Null);
-            answer(verified, parts, Value::Number(0));
+            answer(fixed, parts, Value::Number(0));
         }
     }
 }
 
 // Holds an object that a call got with this reply.
-fn hold<H>(verified: &Verified, parts: &mut Parts<H>, holding: Holding<H>, reply: Reply)
-    requires held { length parts.old.held.items < verified.now.decl.held }
-    requires called { IsCallThere (state_of verified.now parts.old) }
-    requires room { HasRoomFrom verified.now parts.old.pc (parts.old.pc + 1) parts.old }
-    ensures state { state_of verified.now parts.new ≡ holding_too holding reply (state_of verified.now parts.old) }
-    ensures room { HasRoomAt verified.now (parts.new.pc + 1) parts.new }
+fn hold<H>(fixed: &Fixed<'_>, parts: &mut Parts<H>, holding: Holding<H>, reply: Reply)
+    requires held { length parts.old.held.items < fixed.now.verified.now.decl.held }
+    requires called { IsCallThere (state_with fixed.now parts.old) }
+    requires room { HasRoomFrom fixed.now.verified.now parts.old.pc (parts.old.pc + 1) parts.old }
+    ensures state { state_with fixed.now parts.new ≡ holding_too holding reply (state_with fixed.now parts.old) }
+    ensures room { HasRoomAt fixed.now.verified.now (parts.new.pc + 1) parts.new }
 {
     parts.held.push_reserved(holding);
     parts.replies.push_reserved(reply);
@@ -107,15 +107,15 @@ fn hold<H>(verified: &Verified, parts: &mut Parts<H>, holding: Holding<H>, reply
 }
 
 // Gives back the object in r1.
-fn give_back<O: Objects>(verified: &Verified, parts: &mut Parts<O::Held>, objects: &mut O)
-    requires kinds { O.store.kinds ≡ kinds_of verified.now.rows }
-    requires ready { IsReady O.store (state_of verified.now parts.old) objects.old }
-    requires at { Calls (state_of verified.now parts.old) Helper.Free }
+fn give_back<O: Objects>(fixed: &Fixed<'_>, parts: &mut Parts<O::Held>, objects: &mut O)
+    requires kinds { O.store.kinds ≡ kinds_of fixed.now.verified.now.rows }
+    requires ready { IsReady O.store (state_with fixed.now parts.old) objects.old }
+    requires at { Calls (state_with fixed.now parts.old) Helper.Free }
     requires can_give { O.store.can_give objects.old }
-    requires room { HasCapacity verified.now parts.old }
-    ensures advanced { IsAdvanced O.store (state_of verified.now parts.old) (state_of verified.now parts.new) objects.old objects.new }
+    requires room { HasCapacity fixed.now.verified.now parts.old }
+    ensures advanced { IsAdvanced O.store (state_with fixed.now parts.old) (state_with fixed.now parts.new) objects.old objects.new }
     ensures next { (parts.new.pc ≡ parts.old.pc + 1) × (parts.new.exit ≡ None) }
-    ensures room { HasCapacity verified.now parts.new }
+    ensures room { HasCapacity fixed.now.verified.now parts.new }
 {
     let place = place_of(&parts.held, object(parts.registers.get(Reg::R1)));
     let Holding {
@@ -124,44 +124,44 @@ fn give_back<O: Objects>(verified: &Verified, parts: &mut Parts<O::Held>, object
         object,
     } = take_at(&mut parts.held, place);
     objects.give(kind, object);
-    answer(verified, parts, Value::Number(0));
+    answer(fixed, parts, Value::Number(0));
 }
 
 // Exchanges what is on the shelf in r1 for the object in r2, or for nothing.
-fn swap<O: Objects>(verified: &Verified, parts: &mut Parts<O::Held>, objects: &mut O)
-    requires kinds { O.store.kinds ≡ kinds_of verified.now.rows }
-    requires ready { IsReady O.store (state_of verified.now parts.old) objects.old }
-    requires at { Calls (state_of verified.now parts.old) Helper.Swap }
-    requires room { HasCapacity verified.now parts.old }
-    ensures advanced { IsAdvanced O.store (state_of verified.now parts.old) (state_of verified.now parts.new) objects.old objects.new }
+fn swap<O: Objects>(fixed: &Fixed<'_>, parts: &mut Parts<O::Held>, objects: &mut O)
+    requires kinds { O.store.kinds ≡ kinds_of fixed.now.verified.now.rows }
+    requires ready { IsReady O.store (state_with fixed.now parts.old) objects.old }
+    requires at { Calls (state_with fixed.now parts.old) Helper.Swap }
+    requires room { HasCapacity fixed.now.verified.now parts.old }
+    ensures advanced { IsAdvanced O.store (state_with fixed.now parts.old) (state_with fixed.now parts.new) objects.old objects.new }
     ensures next { (parts.new.pc ≡ parts.old.pc + 1) × (parts.new.exit ≡ None) }
-    ensures room { HasCapacity verified.now parts.new }
+    ensures room { HasCapacity fixed.now.verified.now parts.new }
 {
     let call = parts.pc as u16;
     let shelf = parts.registers.number(Reg::R1) as u8;
-    let given = part_with(verified, parts);
+    let given = part_with(fixed, parts);
     match objects.swap(shelf, given, call) {
         Some(object) => {
-            keep(verified, parts, objects.bytes(&object));
+            keep(fixed, parts, objects.bytes(&object));
             let kind = shelf;
             let holding = Holding { call, kind, object };
-            hold(verified, parts, holding, Reply::Shelf);
+            hold(fixed, parts, holding, Reply::Shelf);
             let base = Base::Object(call);
-            answer(verified, parts, Value::Pointer { base, offset: 0 });
+            answer(fixed, parts, Value::Pointer { base, offset: 0 });
         }
         None => {
             parts.replies.push_reserved(Reply::Empty);
-            answer(verified, parts, Value::Number(0));
+            answer(fixed, parts, Value::Number(0));
         }
     }
 }
 
 // Takes the object in r2 from the run, where there is one.
-fn part_with<H>(verified: &Verified, parts: &mut Parts<H>) -> Option<H>
+fn part_with<H>(fixed: &Fixed<'_>, parts: &mut Parts<H>) -> Option<H>
     requires held { IfSome (object_in (slice_index_or parts.old.registers 2 None)) (λ call. Contains (map (λ h. h.call) parts.old.held.items) call) }
-    requires room { HasCapacity verified.now parts.old }
-    ensures parted { HasParted result (state_of verified.now parts.old) (state_of verified.now parts.new) }
-    ensures room { HasCapacity verified.now parts.new }
+    requires room { HasCapacity fixed.now.verified.now parts.old }
+    ensures parted { HasParted result (state_with fixed.now parts.old) (state_with fixed.now parts.new) }
+    ensures room { HasCapacity fixed.now.verified.now parts.new }
 {
     let Some(call) = object_at(parts.registers.get(Reg::R2)) else {
         return None;
@@ -176,12 +176,12 @@ fn part_with<H>(verified: &Verified, parts: &mut Parts<H>) -> Option<H>
 }
 
 // Keeps the bytes of an object that was on a shelf.
-fn keep<H>(verified: &Verified, parts: &mut Parts<H>, bytes: &[u8])
-    requires few { length bytes.now ≤ largest verified.now.rows }
-    requires called { IsSwapThere (state_of verified.now parts.old) }
-    requires room { HasCapacity verified.now parts.old }
-    ensures state { state_of verified.now parts.new ≡ with_taken bytes.now (state_of verified.now parts.old) }
-    ensures room { HasRoomFrom verified.now parts.new.pc (parts.new.pc + 1) parts.new }
+fn keep<H>(fixed: &Fixed<'_>, parts: &mut Parts<H>, bytes: &[u8])
+    requires few { length bytes.now ≤ largest fixed.now.verified.now.rows }
+    requires called { IsSwapThere (state_with fixed.now parts.old) }
+    requires room { HasCapacity fixed.now.verified.now parts.old }
+    ensures state { state_with fixed.now parts.new ≡ with_taken bytes.now (state_with fixed.now parts.old) }
+    ensures room { HasRoomFrom fixed.now.verified.now parts.new.pc (parts.new.pc + 1) parts.new }
 {
     let Ok(()) = parts.taken.extend_from_slice(bytes) else {
         unreachable!()
@@ -189,12 +189,12 @@ fn keep<H>(verified: &Verified, parts: &mut Parts<H>, bytes: &[u8])
 }
 
 // Goes on after a call, with its result.
-fn answer<H>(verified: &Verified, parts: &mut Parts<H>, value: Value<u16>)
+fn answer<H>(fixed: &Fixed<'_>, parts: &mut Parts<H>, value: Value<u16>)
     requires few { parts.old.executed < MAX_SLOTS }
     requires inside { parts.old.pc < MAX_SLOTS }
-    requires room { HasRoomAt verified.now (parts.old.pc + 1) parts.old }
-    ensures state { state_of verified.now parts.new ≡ gone_on value (state_of verified.now parts.old) }
-    ensures room { HasCapacity verified.now parts.new }
+    requires room { HasRoomAt fixed.now.verified.now (parts.old.pc + 1) parts.old }
+    ensures state { state_with fixed.now parts.new ≡ gone_on value (state_with fixed.now parts.old) }
+    ensures room { HasCapacity fixed.now.verified.now parts.new }
 {
     parts.registers.answer(value);
     parts.pc += 1;

@@ -5,7 +5,7 @@
 //! machine that tests every access: the world of many runs, one event of it, and a run alone in a world of its own.
 //!
 //! To be read in this order: `value`, `kinds`, `context`, `objects`, `holding`, `number`, `stack`, `memory`, `registers`, `arithmetic`,
-//! `operate`, `report`, `answer`, `parts`, `workspace`, `ended`, `overwrite`, `helpers`, `going`, `burst`, `advance`, `run`, `whole`.
+//! `operate`, `report`, `answer`, `fixed`, `parts`, `workspace`, `ended`, `overwrite`, `helpers`, `going`, `burst`, `advance`, `run`, `whole`.
 #![tactic(auto)]
 
 mod advance;
@@ -14,6 +14,7 @@ mod arithmetic;
 mod burst;
 pub mod context;
 pub mod ended;
+mod fixed;
 mod going;
 mod helpers;
 pub mod holding;

@@ -3,15 +3,18 @@
 //! Nothing is tested: where the instruction does not trap, its bytes lie in the stack, in the context, or in an object that the run
 //! holds.
 
-ghost use Rattle.std.specs.Prelude.{◌≡◌, ℕ, ℤ, pos, negsuc, ◌+ℤ◌, ◌≤ℤ◌, nat_abs, true, is_ok, Some, Ok, FitsSigned};
+ghost use Rattle.std.specs.Prelude.{◌≡◌, ℕ, ℤ, pos, negsuc, ◌+ℤ◌, ◌≤ℤ◌, ◌≤◌, length, nat_abs, true, is_ok, Some, Ok, FitsSigned};
 ghost use Rattle.std.specs.Int.{w64};
+ghost use Rattle.ebpf_verify.specs.declared.decl.TheConstants.{MAX_CONTEXT};
 ghost use Rattle.ebpf_machine.specs.Values.{Trap};
 ghost use Rattle.ebpf_machine.specs.Effect.{loaded};
+ghost use Rattle.ebpf_machine.specs.Fixed.{context_of};
 ghost use Rattle.ebpf_machine.specs.Store.{AreOut, objects_in, environment_in};
 ghost use Rattle.ebpf_machine.specs.Flows.{IsResult, CanStore, IsStored, found_on_stack, found_among, found_in_object};
 
+use crate::fixed::Fixed;
 use crate::holding::{Holding, place_of};
-use crate::number::number_at;
+use crate::number::{number_at, number_over};
 use crate::objects::Objects;
 use crate::stack::Stack;
 use crate::value::{Base, Value};
@@ -29,22 +32,23 @@ pub(crate) struct Loaded {
 #[inline(always)]
 pub(crate) fn load_from<O: Objects>(
     stack: &Stack,
-    context: &[u8],
+    fixed: &Fixed<'_>,
     held: &[Holding<O::Held>],
     objects: &O,
     address: Option<Value<u16>>,
     load: Loaded,
 ) -> Value<u16>
     requires out { AreOut O.store objects.now held.now }
-    requires loads { (kinds : ℕ) × IsResult (loaded (environment_in O.store objects.now held.now context.now kinds)
+    requires few { length (context_of fixed.now) ≤ MAX_CONTEXT }
+    requires loads { (kinds : ℕ) × IsResult (loaded (environment_in O.store objects.now held.now (context_of fixed.now) kinds)
         stack.now load.size load.signed load.offset address) }
-    ensures { (kinds : ℕ) → loaded (environment_in O.store objects.now held.now context.now kinds)
+    ensures { (kinds : ℕ) → loaded (environment_in O.store objects.now held.now (context_of fixed.now) kinds)
         stack.now load.size load.signed load.offset address ≡ Ok result }
 {
     match address {
         Some(Value::Pointer { base, offset: from }) => match base {
             Base::Stack => load_stack(stack, from, load),
-            Base::Context => Value::Number(load_bytes(context, from, load)),
+            Base::Context => Value::Number(load_context(fixed, from, load)),
             Base::Object(call) => Value::Number(load_object(held, objects, call, from, load)),
         },
         _ => unreachable!(),
@@ -60,12 +64,23 @@ pub(crate) fn load_stack(stack: &Stack, from: i64, load: Loaded) -> Value<u16>
     stack.load(stack_place(from, load.offset), load.size, load.signed)
 }
 
-// The number of the bytes of the context, or of an object.
+// The number of the bytes of an object.
 fn load_bytes(bytes: &[u8], from: i64, load: Loaded) -> u64
     requires { (outside : Trap) × IsResult (found_among outside bytes.now from load) }
     ensures { (outside : Trap) → found_among outside bytes.now from load ≡ Ok (Value.Number result) }
 {
     number_at(bytes, byte_place(from, load.offset), load.size, load.signed)
+}
+
+// The number of bytes of the context.
+#[inline(always)]
+fn load_context(fixed: &Fixed<'_>, from: i64, load: Loaded) -> u64
+    requires few { length (context_of fixed.now) ≤ MAX_CONTEXT }
+    requires loads { IsResult (found_among Trap.ContextAccess (context_of fixed.now) from load) }
+    ensures { found_among Trap.ContextAccess (context_of fixed.now) from load ≡ Ok (Value.Number result) }
+{
+    let place = byte_place(from, load.offset);
+    number_over(fixed.context, fixed.data, place, load.size, load.signed)
 }
 
 fn load_object<O: Objects>(

@@ -2,7 +2,7 @@
 
 ghost use Rattle.std.specs.Prelude.{◌≡◌, ◌+◌, ℕ};
 ghost use Rattle.byteorder.specs.Endian.{little_bytes};
-ghost use Rattle.ebpf_verify.specs.Subject.{Subject};
+ghost use Rattle.ebpf_machine.specs.declared.fixed.Fixed.{Fixed};
 ghost use Rattle.ebpf_machine.specs.Burst.{IsWriting, IsOverwritten};
 
 use crate::holding::place_of;
@@ -29,7 +29,7 @@ pub(crate) struct Written {
 /// Does a store to an object. The run's pc and its count are left.
 #[inline(always)]
 pub(crate) fn overwrite<O: Objects>(parts: &mut Parts<O::Held>, write: Written, objects: &mut O)
-    requires { (subject : Subject) × (pc : ℕ) × (done : ℕ) × IsWriting O.store subject write pc done parts.old objects.old }
+    requires { (fixed : Fixed) × (pc : ℕ) × (done : ℕ) × IsWriting O.store fixed write pc done parts.old objects.old }
     ensures { IsOverwritten O.store write parts.old parts.new objects.old objects.new }
 {
     let bytes = low_bytes(write.number);

@@ -14,14 +14,13 @@ pub(crate) const BYTES_APART: usize = 128;
 /// How many items of eight bytes or more take as much.
 pub(crate) const ITEMS_APART: usize = 16;
 
-/// A run's own, but for its program, of which nothing is promised: `crate::run::Run` says what always holds of both.
+/// What a run changes, of which nothing is promised: `crate::run::Run` says what always holds of it and of what stays fixed.
 #[derive(Drop)]
 pub(crate) struct Parts<H> {
     // It and `after` keep what other threads write off the lines of what is between them.
     pub(crate) before: [u64; ITEMS_APART],
     // Whether the lists leave as much room unused after their items.
     pub(crate) is_apart: bool,
-    pub(crate) context: Vec<u8>,
     pub(crate) pc: usize,
     pub(crate) registers: Registers,
     pub(crate) stack: Stack,

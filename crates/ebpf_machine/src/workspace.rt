@@ -1,14 +1,14 @@
 //! The memory of a run, which outlives it.
 
-ghost use Rattle.std.specs.Prelude.{◌≡◌, [], OnOk};
+ghost use Rattle.std.specs.Prelude.{◌≡◌, []};
 
-use crate::parts::{BYTES_APART, ITEMS_APART, Parts};
+use crate::parts::{ITEMS_APART, Parts};
 use crate::registers::Registers;
 use crate::stack::Stack;
 use std::alloc::{AllocError, Global};
 
-/// The memory of a run, in one box: its registers, its stack, and room for the objects that it holds and for its context. A run takes
-/// the box, and gives it back at its end, so that the next one needs none. It must be freed.
+/// The memory of a run, in one box: its registers, its stack, and room for the objects that it holds. A run takes the box, and gives it back at its
+/// end, so that the next one needs none. It must be freed.
 pub struct Workspace<H> {
     // What the last run left in it doesn't matter, but for these lists.
     pub(crate) parts: Box<Parts<H>>,
@@ -33,7 +33,6 @@ impl<H> Workspace<H> {
         let parts = Parts {
             before: [0; ITEMS_APART],
             is_apart,
-            context: Vec::new(alloc),
             pc: 0,
             registers: Registers::new(),
             stack: Stack::new(),
@@ -53,24 +52,6 @@ impl<H> Workspace<H> {
                 Err(AllocError)
             }
         }
-    }
-
-    /// Makes these bytes the context of the next run, in the memory of the last one's. It fails only where that has no room for them and
-    /// an allocation fails.
-    pub(crate) fn set_context(&mut self, bytes: &[u8]) -> Result<(), AllocError>
-        ensures { OnOk result (self.new.parts.value.context.items ≡ bytes.now) }
-    {
-        let is_apart = self.parts.is_apart;
-        let context = &mut self.parts.context;
-        context.clear();
-        // Many programs read no context, and a copy is a call.
-        if !bytes.is_empty() {
-            if is_apart {
-                context.reserve(bytes.len() + BYTES_APART)?;
-            }
-            context.extend_from_slice(bytes)?;
-        }
-        Ok(())
     }
 
     /// Frees the memory.

@@ -2,7 +2,7 @@ use Rattle.std.proofs.Common.{◌≡◌, ◌+◌, List, length, ap, ◌∙◌, r
 use Rattle.std.specs.Vec.{vec_len}
 use Rattle.ebpf_machine.specs.World.{Kind, image_at}
 use Rattle.ebpf_machine.specs.RunState.{RunState}
-use Rattle.ebpf_machine.specs.Parts.{state_of}
+use Rattle.ebpf_machine.specs.Parts.{state_with}
 use Rattle.ebpf_verify.specs.CallCount.{is_call_there}
 use Rattle.ebpf_machine.proofs.Instructions.Advancing.{ready_few, ready_inside}
 use Rattle.ebpf_machine.proofs.Instructions.CallsLeft.{behind, one_added, one_fits, taken_behind}
@@ -35,7 +35,7 @@ hold-requires-clause-room g c =
     record {
       output = room.output;
       replies = room.replies;
-      taken = taken_behind c.args.verified.now.program c.args.parts.now.pc _ _ _ room.taken;
+      taken = taken_behind c.args.fixed.now.verified.now.program c.args.parts.now.pc _ _ _ room.taken;
       held = room.held;
     }
 
@@ -52,7 +52,7 @@ answer-requires-clause-inside g c =
 
 pub push_reserved-requires : goal.push_reserved-requires
 push_reserved-requires g c =
-    let fits = one_fits c.args.verified.now.program c.args.parts.now.pc _ _ (ap is_call_there c.requires.at.at) c.requires.room.replies in
+    let fits = one_fits c.args.fixed.now.verified.now.program c.args.parts.now.pc _ _ (ap is_call_there c.requires.at.at) c.requires.room.replies in
     let long : length c.args.parts.now.replies.items ≡ vec_len c.args.parts.now.replies = search rules in
     omega (arith, fits, long)
 
@@ -65,8 +65,8 @@ answer-requires-in-None-clause-inside g c = ready_inside c.requires.ready
 pub returns-in-Some-clause-advanced : goal.returns-in-Some-clause-advanced
 returns-in-Some-clause-advanced g c =
     let asks = asking _ c.requires.ready c.requires.at c.number-kind.ensures in
-    rw (granted_state (state_of c.args.verified.now c.args.parts.now) (state_of c.args.verified.now c.hold.new.parts)
-    (state_of c.args.verified.now c.answer.new.parts) _ _ refl c.hold.ensures.state c.answer.ensures.state)
+    rw (granted_state (state_with c.args.fixed.now c.args.parts.now) (state_with c.args.fixed.now c.hold.new.parts)
+    (state_with c.args.fixed.now c.answer.new.parts) _ _ refl c.hold.ensures.state c.answer.ensures.state)
     (grant_advanced _ asks (ask_known asks) refl
     (record {
       can = c.in-Some.ensures.granted;
@@ -95,12 +95,12 @@ returns-in-None-clause-advanced g c =
 pub answer-requires-in-None-clause-room : goal.answer-requires-in-None-clause-room
 answer-requires-in-None-clause-room g c =
     let room = c.requires.room in
-    let added = one_added c.args.verified.now.program c.args.parts.now.pc _ _ (ap is_call_there c.requires.at.at) room.replies in
+    let added = one_added c.args.fixed.now.verified.now.program c.args.parts.now.pc _ _ (ap is_call_there c.requires.at.at) room.replies in
     let long : length c.push_reserved.new.self.items ≡ length c.args.parts.now.replies.items + 1 = search rules in
     record {
-      output = behind c.args.verified.now.program c.args.parts.now.pc _ _ room.output;
+      output = behind c.args.fixed.now.verified.now.program c.args.parts.now.pc _ _ room.output;
       replies = omega (arith, added, long, c.push_reserved.ensures.capacity);
-      taken = taken_behind c.args.verified.now.program c.args.parts.now.pc _ _ _ room.taken;
+      taken = taken_behind c.args.fixed.now.verified.now.program c.args.parts.now.pc _ _ _ room.taken;
       held = room.held;
     }
 

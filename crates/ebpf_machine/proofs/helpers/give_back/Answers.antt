@@ -3,7 +3,7 @@ use Rattle.ebpf_machine.specs.declared.holding.Holding.{Holding}
 use Rattle.ebpf_machine.specs.declared.value.Value.TheVariants.{Number}
 use Rattle.ebpf_machine.specs.RunState.{RunState}
 use Rattle.ebpf_machine.specs.Flows.{object_in}
-use Rattle.ebpf_machine.specs.Parts.{state_of}
+use Rattle.ebpf_machine.specs.Parts.{state_with}
 use Rattle.ebpf_machine.proofs.Instructions.Advancing.{registers_answered, ready_few, ready_inside}
 use Rattle.ebpf_machine.proofs.Instructions.CallsLeft.{behind, taken_behind}
 use Rattle.ebpf_machine.proofs.Instructions.Returning.{free_object, free_held, free_here}
@@ -32,10 +32,10 @@ returns-clause-advanced g c =
     let named : (get_or c.args.parts.now.held.items c.place_of-place.result c.take_at-kind.result).call ≡ c.object.result =
     subst (λ (hs : List (Holding _)). (get_or hs c.place_of-place.result c.take_at-kind.result).call ≡ c.object.result) items
     (c.place_of-place.ensures.value c.take_at-kind.result) in
-    free_here (state_of c.args.verified.now c.answer.new.parts) c.place_of-place.result c.object.result c.requires.ready c.requires.at
+    free_here (state_with c.args.fixed.now c.answer.new.parts) c.place_of-place.result c.object.result c.requires.ready c.requires.at
     (ap object_in (sym c.get.ensures.value) ∙ c.object.ensures) inside c.take_at-kind.ensures.value named
     (c.answer.ensures.state ∙ ap (λ (hs : List (Holding _)).
-    record (state_of c.args.verified.now c.args.parts.now) {
+    record (state_with c.args.fixed.now c.args.parts.now) {
       held = hs;
       pc = c.args.parts.now.pc + 1;
       registers = registers_answered
@@ -53,9 +53,9 @@ pub answer-requires-clause-room : goal.answer-requires-clause-room
 answer-requires-clause-room g c =
     let room = c.requires.room in
     record {
-      output = behind c.args.verified.now.program c.args.parts.now.pc _ _ room.output;
-      replies = behind c.args.verified.now.program c.args.parts.now.pc _ _ room.replies;
-      taken = taken_behind c.args.verified.now.program c.args.parts.now.pc _ _ _ room.taken;
+      output = behind c.args.fixed.now.verified.now.program c.args.parts.now.pc _ _ room.output;
+      replies = behind c.args.fixed.now.verified.now.program c.args.parts.now.pc _ _ room.replies;
+      taken = taken_behind c.args.fixed.now.verified.now.program c.args.parts.now.pc _ _ _ room.taken;
       held = search rules;
     }
 

@@ -6,7 +6,7 @@ use Rattle.ebpf_machine.proofs.helpers.keep.Goals as goal
 
 pub unreachable-requires : goal.unreachable-requires
 unreachable-requires g c =
-    let p = c.args.verified.now.program in
+    let p = c.args.fixed.now.verified.now.program in
     let fits = taken_fits p c.args.parts.now.pc _ (length c.args.bytes.now) _ _ c.requires.called c.requires.few c.requires.room.taken in
     let long : length c.args.parts.now.taken.items ≡ vec_len c.args.parts.now.taken = search rules in
     let ok = c.extend_from_slice.ensures.succeeds (omega (arith, fits, long)) in
@@ -16,7 +16,7 @@ unreachable-requires g c =
 pub returns-clause-room : goal.returns-clause-room
 returns-clause-room g c =
     let room = c.requires.room in
-    let p = c.args.verified.now.program in
+    let p = c.args.fixed.now.verified.now.program in
     let added = taken_added p c.args.parts.now.pc _ (length c.args.bytes.now) _ _ c.requires.called c.requires.few room.taken in
     let long : length c.extend_from_slice.new.self.items ≡ length c.args.parts.now.taken.items + length c.args.bytes.now = search rules in
     record { output = room.output; replies = room.replies; taken = omega (arith, added, long, c.in-Ok.ensures.capacity); held = room.held }

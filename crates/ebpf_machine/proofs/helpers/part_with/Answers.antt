@@ -1,7 +1,7 @@
 use Rattle.std.proofs.Common.{◌≡◌, ◌<◌, List, length, get_or, Some, sym, ap, ◌∙◌, subst, refl, ℕ}
 use Rattle.ebpf_machine.specs.declared.holding.Holding.{Holding}
 use Rattle.ebpf_machine.specs.Flows.{object_in}
-use Rattle.ebpf_machine.specs.Parts.{state_of}
+use Rattle.ebpf_machine.specs.Parts.{state_with}
 use Rattle.ebpf_machine.proofs.helpers.part_with.Goals as goal
 
 pub returns-clause-parted : goal.returns-clause-parted
@@ -20,6 +20,6 @@ returns-clause-parted g c =
         place = place;
         inside = inside;
         is = sym c.take_at-object.ensures.value;
-        left = ap (λ (hs : List (Holding _)). record (state_of c.args.verified.now c.args.parts.now) { held = hs }) c.take_at-object.ensures.items;
+        left = ap (λ (hs : List (Holding _)). record (state_with c.args.fixed.now c.args.parts.now) { held = hs }) c.take_at-object.ensures.items;
       },
     )

@@ -5,7 +5,7 @@ use Rattle.ebpf_insn.specs.Program.{insn_at}
 use Rattle.ebpf_verify.specs.CallCount.{is_call_there}
 use Rattle.ebpf_machine.specs.declared.holding.Holding.{Holding}
 use Rattle.ebpf_machine.specs.RunState.{RunState}
-use Rattle.ebpf_machine.specs.Parts.{state_of, largest}
+use Rattle.ebpf_machine.specs.Parts.{state_with, largest}
 use Rattle.ebpf_machine.proofs.Instructions.Advancing.{ready_few, ready_inside}
 use Rattle.ebpf_machine.proofs.Instructions.CallsLeft.{behind, one_added, one_fits, taken_behind}
 use Rattle.ebpf_machine.proofs.Instructions.Largest.{within_largest}
@@ -20,7 +20,7 @@ pub number-shelf-requires : goal.number-shelf-requires
 number-shelf-requires g c = swap_finds c.requires.ready c.requires.at
 
 swaps : (g : Over) (c : After-number-shelf g)
-    → Swaps g.O.Objects.store (state_of c.args.verified.now c.args.parts.now) c.args.objects.now c.number-shelf.result
+    → Swaps g.O.Objects.store (state_with c.args.fixed.now c.args.parts.now) c.args.objects.now c.number-shelf.result
 swaps g c = swapping _ c.requires.ready c.requires.at c.number-shelf.ensures
 
 pub overflow_cast-shelf : goal.overflow_cast-shelf
@@ -41,13 +41,13 @@ swap-requires-clause-given g c = given_fits _ _ (swaps g (goal.at.swap-requires-
 
 -- the run without what it gave
 left : (g : Over) (c : After-part_with-given g)
-    → state_of c.args.verified.now c.part_with-given.new.parts
-    ≡ record (state_of c.args.verified.now c.args.parts.now) { held = c.part_with-given.new.parts.held.items }
+    → state_with c.args.fixed.now c.part_with-given.new.parts
+    ≡ record (state_with c.args.fixed.now c.args.parts.now) { held = c.part_with-given.new.parts.held.items }
 left g c = parted_state _ _ _ c.part_with-given.ensures.parted
 
 -- the call still is at its pc
 called : (g : Over) (c : After-part_with-given g)
-    → insn_at c.args.verified.now.program c.part_with-given.new.parts.pc ≡ Some (Call c.requires.at.number)
+    → insn_at c.args.fixed.now.verified.now.program c.part_with-given.new.parts.pc ≡ Some (Call c.requires.at.number)
 called g c = ap (λ (x : RunState _). insn_at x.subject.program x.pc) (left g c) ∙ c.requires.at.at
 
 swapped : (g : Over) (c : After-swap g)
@@ -63,7 +63,7 @@ swapped g c =
 
 pub keep-requires-clause-few : goal.keep-requires-clause-few
 keep-requires-clause-few g c =
-    let rows = c.args.verified.now.rows in
+    let rows = c.args.fixed.now.verified.now.rows in
     let object = c.in-Some.object in
     let size = g.met.O.Objects.has_size c.swap.new.self object c.in-Some.ensures.out.0 in
     let long = fetched_long g.O.Objects.store rows c.swap.new.self c.number-shelf.result object c.requires.kinds size.0 c.in-Some.ensures.out.1 in
@@ -74,7 +74,7 @@ keep-requires-clause-few g c =
 pub hold-requires-clause-held : goal.hold-requires-clause-held
 hold-requires-clause-held g c =
     let at = goal.at.hold-requires-clause-held g c in
-    let room = fetch_room (state_of c.args.verified.now c.part_with-given.new.parts) (swaps g at.After-number-shelf) c.part_with-given.ensures.parted
+    let room = fetch_room (state_with c.args.fixed.now c.part_with-given.new.parts) (swaps g at.After-number-shelf) c.part_with-given.ensures.parted
     (swapped g at.After-swap) in
     let held = ap (λ (x : RunState _). length x.held) c.keep.ensures.state in
     let decl = ap (λ (x : RunState _). x.subject.decl.held) c.keep.ensures.state in
@@ -103,7 +103,7 @@ pub push_reserved-requires : goal.push_reserved-requires
 push_reserved-requires g c =
     let t = c.part_with-given.new.parts in
     let at = goal.at.push_reserved-requires g c in
-    let fits = one_fits c.args.verified.now.program t.pc _ _ (ap is_call_there (called g at.After-part_with-given)) c.part_with-given.ensures.room.replies in
+    let fits = one_fits c.args.fixed.now.verified.now.program t.pc _ _ (ap is_call_there (called g at.After-part_with-given)) c.part_with-given.ensures.room.replies in
     let long : length t.replies.items ≡ vec_len t.replies = search rules in
     omega (arith, fits, long)
 
@@ -122,7 +122,7 @@ answer-requires-in-None-clause-inside g c =
 pub answer-requires-in-None-clause-room : goal.answer-requires-in-None-clause-room
 answer-requires-in-None-clause-room g c =
     let t = c.part_with-given.new.parts in
-    let p = c.args.verified.now.program in
+    let p = c.args.fixed.now.verified.now.program in
     let room = c.part_with-given.ensures.room in
     let at = goal.at.answer-requires-in-None-clause-room g c in
     let added = one_added p t.pc _ _ (ap is_call_there (called g at.After-part_with-given)) room.replies in
@@ -142,7 +142,7 @@ returns-in-Some-clause-advanced g c =
     let object = c.in-Some.object in
     let h : Holding _ = record { call = c.args.parts.now.pc; kind = c.number-shelf.result; object = object } in
     let size = g.met.O.Objects.has_size c.swap.new.self object c.in-Some.ensures.out.0 in
-    let long = fetched_long g.O.Objects.store c.args.verified.now.rows c.swap.new.self c.number-shelf.result object c.requires.kinds size.0
+    let long = fetched_long g.O.Objects.store c.args.fixed.now.verified.now.rows c.swap.new.self c.number-shelf.result object c.requires.kinds size.0
     c.in-Some.ensures.out.1 in
     let fetched : IsFetched g.O.Objects.store c.number-shelf.result object c.args.objects.now c.swap.new.self = record {
       can = c.in-Some.ensures.fetched;
@@ -157,12 +157,12 @@ returns-in-Some-clause-advanced g c =
       shelves = c.in-Some.ensures.shelves;
     } in
     rw (
-      fetched_state (state_of c.args.verified.now c.args.parts.now) (state_of c.args.verified.now t) (state_of c.args.verified.now c.keep.new.parts)
-          (state_of c.args.verified.now c.hold.new.parts) (state_of c.args.verified.now c.answer.new.parts) h _ _ refl
+      fetched_state (state_with c.args.fixed.now c.args.parts.now) (state_with c.args.fixed.now t) (state_with c.args.fixed.now c.keep.new.parts)
+          (state_with c.args.fixed.now c.hold.new.parts) (state_with c.args.fixed.now c.answer.new.parts) h _ _ refl
           (left g at.After-part_with-given) c.keep.ensures.state c.hold.ensures.state c.answer.ensures.state,
       c.bytes.ensures,
     )
-    (fetch_advanced (state_of c.args.verified.now t) h it c.part_with-given.ensures.parted refl swap fetched long)
+    (fetch_advanced (state_with c.args.fixed.now t) h it c.part_with-given.ensures.parted refl swap fetched long)
 
 pub returns-in-None-clause-advanced : goal.returns-in-None-clause-advanced
 returns-in-None-clause-advanced g c =
@@ -176,11 +176,11 @@ returns-in-None-clause-advanced g c =
       others = c.in-None.ensures.others;
       shelves = c.in-None.ensures.shelves;
     } in
-    rw (missed_state (state_of c.args.verified.now c.args.parts.now) (state_of c.args.verified.now t) _
-    (state_of c.args.verified.now c.answer-in-None.new.parts) (left g at.After-part_with-given)
-    (ap (λ (replies : List _). record (state_of c.args.verified.now t) { replies = replies }) c.push_reserved.ensures.items)
+    rw (missed_state (state_with c.args.fixed.now c.args.parts.now) (state_with c.args.fixed.now t) _
+    (state_with c.args.fixed.now c.answer-in-None.new.parts) (left g at.After-part_with-given)
+    (ap (λ (replies : List _). record (state_with c.args.fixed.now t) { replies = replies }) c.push_reserved.ensures.items)
     c.answer-in-None.ensures.state)
-    (miss_advanced (state_of c.args.verified.now t) it c.part_with-given.ensures.parted swap c.in-None.ensures.missed)
+    (miss_advanced (state_with c.args.fixed.now t) it c.part_with-given.ensures.parted swap c.in-None.ensures.missed)
 
 -- the run after it parted with an object
 parted_there : (g : Over) (c : After-part_with-given g)
