@@ -46,7 +46,17 @@ enum {
     EBPF_PAGES = 3,       /* a machine has 1 to 256 pages */
     EBPF_CONTEXT = 4,     /* the context doesn't have the length for which the program was loaded */
     EBPF_EMPTY = 5,       /* a handle holds nothing */
-    EBPF_NO_MEMORY = 6    /* an allocation failed */
+    EBPF_NO_MEMORY = 6,   /* an allocation failed */
+    EBPF_KIND = 7,        /* no kind of object has the number */
+    EBPF_LENGTH = 8,      /* an object of the kind has fewer bytes */
+    EBPF_NO_OBJECT = 9    /* there is no page, or no memory, for one more object */
+};
+
+/* The kinds of object, each with a shelf on a machine, by the numbers that programs pass to new and to swap. */
+enum {
+    EBPF_CELL = 0,   /* 16 bytes, first all 0 */
+    EBPF_RECORD = 1, /* 64 bytes, first all 0xff */
+    EBPF_BLOCK = 2   /* 512 bytes, first all 0x5a */
 };
 
 /* A status in words. */
@@ -59,6 +69,9 @@ static inline const char *ebpf_status_text(ebpf_status status) {
     case EBPF_CONTEXT: return "context of another length";
     case EBPF_EMPTY: return "empty handle";
     case EBPF_NO_MEMORY: return "out of memory";
+    case EBPF_KIND: return "no such kind of object";
+    case EBPF_LENGTH: return "more bytes than an object of the kind has";
+    case EBPF_NO_OBJECT: return "no page or memory for an object";
     default: return "unknown status";
     }
 }
@@ -161,6 +174,19 @@ ebpf_status ebpf_machine_reap(ebpf_machine *machine);
 ebpf_status ebpf_machine_run(ebpf_machine *machine, const ebpf_program *program, const uint8_t *context, size_t context_length,
                              uint64_t limit, uint64_t *output, size_t output_length, ebpf_report *report);
 
+/* Leaves an object of a kind on its shelf, as a program's swap does: the next program that exchanges something there gets it. It begins with
+ * `length` bytes of `bytes`, and has the rest as a new object of the kind has it. *replaced says whether it is there in place of another,
+ * which is given back.
+ *
+ * EBPF_EMPTY, EBPF_KIND, EBPF_LENGTH, EBPF_NO_OBJECT: each shelf is as it was. */
+ebpf_status ebpf_machine_put(ebpf_machine *machine, uint32_t kind, const uint8_t *bytes, size_t length, bool *replaced);
+
+/* Takes what is on the shelf of a kind off it, writes its bytes to `bytes`, as far as length of them have room, and gives the object back.
+ * *found says whether something was there; if not, nothing is written to bytes. To read a shelf and leave it as it is, put the bytes back.
+ *
+ * EBPF_EMPTY, EBPF_KIND. */
+ebpf_status ebpf_machine_take(ebpf_machine *machine, uint32_t kind, uint8_t *bytes, size_t length, bool *found);
+
 /* The library's own functions take no null pointer. The names of those with a length mean these from here on, which pass one that isn't
  * null where the length is 0. A caller that doesn't compile this header, as from Python, has to do so itself. */
 static inline ebpf_status ebpf_program_load_or_null(ebpf_program *program, const uint8_t *bytes, size_t length, uint32_t context,
@@ -210,6 +236,18 @@ static inline ebpf_status ebpf_machine_run_or_null(ebpf_machine *machine, const 
                             output || output_length ? output : &no_output, output_length, report);
 }
 #define ebpf_machine_run ebpf_machine_run_or_null
+
+static inline ebpf_status ebpf_machine_put_or_null(ebpf_machine *machine, uint32_t kind, const uint8_t *bytes, size_t length, bool *replaced) {
+    uint8_t no_bytes = 0;
+    return ebpf_machine_put(machine, kind, bytes || length ? bytes : &no_bytes, length, replaced);
+}
+#define ebpf_machine_put ebpf_machine_put_or_null
+
+static inline ebpf_status ebpf_machine_take_or_null(ebpf_machine *machine, uint32_t kind, uint8_t *bytes, size_t length, bool *found) {
+    uint8_t no_bytes = 0;
+    return ebpf_machine_take(machine, kind, bytes || length ? bytes : &no_bytes, length, found);
+}
+#define ebpf_machine_take ebpf_machine_take_or_null
 
 #ifdef __cplusplus
 }

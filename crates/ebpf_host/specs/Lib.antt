@@ -1,3 +1,4 @@
+pub mod Copying
 pub mod Stock
 pub mod Stocks
 pub mod Reports
@@ -6,3 +7,4 @@ pub mod Finding
 pub mod Loading
 pub mod Unrolled
 pub mod Whole
+pub mod Shelving

@@ -10,12 +10,15 @@
 //! many instructions as it says. What is on the shelves afterwards is what the program alone leaves there. It rests on
 //! this: the store of a machine keeps the laws of `Objects` of ebpf_machine.
 //!
-//! To be read in this order: `refusal`, `program`, `unrolled`, `stock`, `stocks`, `store`, `within`, `machine`.
+//! To be read in this order: `refusal`, `program`, `unrolled`, `copying`, `stock`, `stocks`, `store`, `within`, `machine`,
+//! `shelving`.
 #![tactic(auto)]
 
+pub mod copying;
 pub mod machine;
 pub mod program;
 pub mod refusal;
+pub mod shelving;
 pub mod stock;
 pub mod stocks;
 mod store;

@@ -24,20 +24,15 @@ use std::marker::Model;
 use std::mem;
 use vmem_arena::{Arena, ArenaFault};
 
-// How many bytes keep the end of what runs write off the lines of the processor's cache that other threads use.
-const BYTES_APART: usize = 128;
-
 /// The memory of runs and the objects that they take, give back and leave on shelves. It serves one run at a time, of whatever
 /// program; what a run leaves on a shelf is there for the next. All of it ends with the machine.
 pub struct Machine {
     alloc: Global,
     // It and `after` keep what other threads use off the lines of the processor's cache on which runs write here.
     before: [u64; WORDS_APART],
-    stocks: Box<Stocks>,
+    pub(crate) stocks: Box<Stocks>,
     // None before the first run, and after one that found no memory.
     workspace: Option<Workspace<Object>>,
-    // The context of the last program with data, with the data.
-    room: Vec<u8>,
     after: [u64; WORDS_APART],
 }
 
@@ -67,7 +62,6 @@ impl Machine {
                 before: [0; WORDS_APART],
                 stocks,
                 workspace: None,
-                room: Vec::new(alloc),
                 after: [0; WORDS_APART],
             }),
             Err(failed) => {
@@ -132,11 +126,7 @@ impl Machine {
         }
         let workspace = self.take_workspace()?;
         let stocks = &mut *self.stocks;
-        let Ok(joined) = whole_of(&mut self.room, program, context) else {
-            workspace.free();
-            return Err(StartFault::NoMemory);
-        };
-        let ended = run_within(workspace, program, joined, stocks, limit)?;
+        let ended = run_within(workspace, program, context, stocks, limit)?;
         Ok(ended)
     }
 
@@ -194,7 +184,6 @@ impl Drop for Machine {
             before: _,
             stocks,
             workspace,
-            room: _,
             after: _,
         } = self;
         Box::into_inner(stocks).end();
@@ -202,24 +191,4 @@ impl Drop for Machine {
             workspace.free();
         }
     }
-}
-
-// What a program has as its context: the host's bytes and its data, in some room; without data the host's bytes, where they are. It fails
-// only where an allocation fails.
-fn whole_of<'a>(
-    room: &'a mut Vec<u8>,
-    program: &Program,
-    context: &'a [u8],
-) -> Result<&'a [u8], AllocError>
-    ensures { IfOk result (λ joined. joined.now ≡ whole program.now context.now) }
-{
-    let after = program.data();
-    if after.is_empty() {
-        return Ok(context);
-    }
-    room.clear();
-    room.reserve(context.len() + after.len() + BYTES_APART)?;
-    room.extend_from_slice(context)?;
-    room.extend_from_slice(after)?;
-    Ok(room)
 }

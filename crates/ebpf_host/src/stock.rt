@@ -8,10 +8,12 @@
 //! *The reason.* So no call of `new` is granted the slot of what is on the shelf, and it is there, with its bytes, for whatever
 //! run takes it from there.
 
-ghost use Rattle.std.specs.Prelude.{◌≡◌, ◌/◌, ℕ, false, replicate, None, Option, option_map, is_some, IsTrue, IfSome, IfNone};
+ghost use Rattle.std.specs.Prelude.{◌≡◌, ◌/◌, ◌≤◌, ℕ, false, length, replicate, None, Option, option_map, is_some, IsTrue, IfSome, IfNone};
 ghost use Rattle.slab_layer.specs.Slots.{IsHome, IsOut, out_count};
-ghost use Rattle.ebpf_host.specs.Stock.{IsHeld, Takes, Gives, Exchanges, shelved_at};
+ghost use Rattle.ebpf_host.specs.Shelving.{IsFetched, IsPut};
+ghost use Rattle.ebpf_host.specs.Stock.{IsHeld, Takes, Gives, Exchanges, held_count, shelved_at};
 
+use crate::copying::copy;
 use slab_layer::{Held, Home, Kind, Obj, Slabs};
 use std::alloc::Global;
 use std::marker::Model;
@@ -137,6 +139,41 @@ impl<K: Kind> Stock<K> {
             .gets
             .wrapping_add(u64::from(self.shelf.is_some()));
         mem::replace(&mut self.shelf, given)
+    }
+
+    /// Leaves an object with these bytes at its start on the shelf, and says whether another was there, which goes back. None where there is
+    /// no object to be had; then nothing changed here.
+    pub(crate) fn put(&mut self, arena: &mut Arena, bytes: &[u8]) -> Option<bool>
+        requires { length bytes.now ≤ K.SIZE }
+        ensures put { IfSome result (IsPut (replicate K.SIZE K.FILL) bytes.now self.old.shelf self.new.shelf) }
+        ensures held { held_count self.new ≡ held_count self.old }
+        ensures none { IfNone result (self.new ≡ self.old) }
+        ensures pages { arena.new.pages ≡ arena.old.pages }
+    {
+        let mut object = self.take(arena)?;
+        object.write(0, bytes);
+        match self.swap(Some(object)) {
+            Some(before) => {
+                self.give(before);
+                Some(true)
+            }
+            None => Some(false),
+        }
+    }
+
+    /// Takes what is on the shelf off it, copies its bytes as far as there is room, and gives it back; says whether there was something.
+    pub(crate) fn fetch(&mut self, room: &mut [u8]) -> bool
+        ensures taken { IsFetched result self.old.shelf self.new.shelf room.old room.new }
+        ensures held { held_count self.new ≡ held_count self.old }
+    {
+        match self.swap(None) {
+            Some(object) => {
+                copy(object.bytes(), room);
+                self.give(object);
+                true
+            }
+            None => false,
+        }
     }
 
     /// Gives the lowest page that has nothing out back to the arena. False where there is no such page; then nothing changed.

@@ -1,11 +1,14 @@
 //! A run within a limit of instructions.
 
-ghost use Rattle.std.specs.Prelude.{◌≡◌, length, IfOk, IfErr, OnOk, OnErr};
+ghost use Rattle.std.specs.Prelude.{◌≡◌, ℕ, List, length, IfOk, IfErr, OnOk, OnErr};
 ghost use Rattle.ebpf_machine.specs.Kinds.{known_kinds};
+ghost use Rattle.ebpf_machine.specs.RunState.{first_state_of, seen};
+ghost use Rattle.ebpf_machine.specs.Sound.{IsSound};
 ghost use Rattle.ebpf_machine.specs.Turns.{IsStartFault};
 ghost use Rattle.ebpf_host.specs.Finding.{IsFound, TellsShelves};
 ghost use Rattle.ebpf_host.specs.Leaving.{IsLeft};
 ghost use Rattle.ebpf_host.specs.Reports.{IsReportWithin};
+ghost use Rattle.ebpf_host.specs.Whole.{whole};
 
 use crate::program::Program;
 use ebpf_machine::ended::Ended;
@@ -13,8 +16,8 @@ use ebpf_machine::objects::Objects;
 use ebpf_machine::run::{Run, StartFault};
 use ebpf_machine::workspace::Workspace;
 
-/// Runs a program on a context that has its data, with the objects of a store, in the memory of a run that has ended, and leaves there what it did. After
-/// `limit` instructions the run is given up, and what it holds goes back.
+/// Runs a program on a context, after which come its data, with the objects of a store, in the memory of a run that has ended, and leaves
+/// there what it did. After `limit` instructions the run is given up, and what it holds goes back.
 ///
 /// # Errors
 /// `ContextLength` where the context doesn't have the declared length; `NoMemory` where an allocation failed. The memory is freed then.
@@ -28,16 +31,31 @@ pub(crate) fn run_within<O: Objects>(
     requires kinds { O.store.kinds ≡ known_kinds }
     requires room { (store : O) → O.store.can_give store }
     requires tells { TellsShelves O.store }
-    ensures report { IfOk result (IsReportWithin program.now.verified context.now limit) }
+    ensures report { IfOk result (IsReportWithin program.now.verified (whole program.now context.now) limit) }
     // The store went by the report's answers.
     ensures goes { IfOk result (λ r. O.store.goes objects.old r.answers objects.new) }
-    ensures found { IfOk result (λ r. IsFound O.store objects.old program.now.verified context.now r) }
-    ensures shelves { IfOk result (λ r. IsLeft O.store objects.old objects.new program.now.verified context.now r) }
-    ensures length { OnOk result (length context.now ≡ program.now.verified.decl.context) }
-    ensures refused { IfErr result (IsStartFault (length context.now) program.now.verified.decl.context) }
+    ensures found { IfOk result (λ r. IsFound O.store objects.old program.now.verified (whole program.now context.now) r) }
+    ensures shelves { IfOk result (λ r. IsLeft O.store objects.old objects.new program.now.verified (whole program.now context.now) r) }
+    ensures length { OnOk result (length (whole program.now context.now) ≡ program.now.verified.decl.context) }
+    ensures refused { IfErr result (IsStartFault (length (whole program.now context.now)) program.now.verified.decl.context) }
     ensures unchanged { OnErr result (objects.new ≡ objects.old) }
 {
-    let mut run = Run::start_in(workspace, &program.verified, context)?;
+    let mut run = start(workspace, program, context)?;
     run.run(objects, limit);
     Ok(run.end_in_place(objects))
+}
+
+// A run of a program at its first instruction.
+#[inline(always)]
+fn start<'v, H>(
+    workspace: Workspace<H>,
+    program: &'v Program,
+    context: &'v [u8],
+) -> Result<Run<'v, H>, StartFault>
+    ensures started { IfOk result (λ r. r ≡ first_state_of program.now.verified (whole program.now context.now)) }
+    ensures sound { IfOk result (λ r. (bytes : H → List ℕ) → IsSound (seen bytes r)) }
+    ensures length { OnOk result (length (whole program.now context.now) ≡ program.now.verified.decl.context) }
+    ensures refused { IfErr result (IsStartFault (length (whole program.now context.now)) program.now.verified.decl.context) }
+{
+    Run::start_with(workspace, &program.verified, context, &program.data)
 }

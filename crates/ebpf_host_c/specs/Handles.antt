@@ -6,7 +6,6 @@ use Rattle.std.specs.declared.alloc.Global.{Global}
 use Rattle.std.specs.declared.sync.Arc.{Arc}
 use Rattle.ebpf_host.specs.declared.program.Program.{Program}
 use Rattle.ebpf_host.specs.declared.stocks.Stocks.{Stocks}
-use Rattle.ebpf_host.specs.Stocks.{stock_of}
 use Rattle.ebpf_host.specs.Whole.{whole}
 use Rattle.ebpf_host_c.specs.declared.reported.Reported.{Reported}
 use Rattle.ebpf_host_c.specs.Reported.{IsReportWritten}
@@ -22,10 +21,6 @@ MachineGoes R old new = MatchOption old (new ≡ None) (λ before. MatchOption n
 -- the pages of the arena stay as many as they were
 abbrev pub PagesStay : Stocks → Stocks → Type 0
 PagesStay before after = after.arena.pages ≡ before.arena.pages
-
--- what is on each shelf stays there
-abbrev pub ShelvesStay : Stocks → Stocks → Type 0
-ShelvesStay before after = (kind : ℕ) → (stock_of after kind).shelf ≡ (stock_of before kind).shelf
 
 -- the handles held a program and a machine, the machine is still held, and what C reads is the report of the run
 abbrev pub IsRunReported : Option (Arc Program Global) → Option Stocks → Option Stocks → List ℕ → ℕ → List ℕ → List ℕ → Reported → Type 0

@@ -1,5 +1,5 @@
 -- What C is given.
-use Rattle.std.specs.Prelude.{◌≡◌, ℕ, Bool, true, false, ◌++◌, List, [], ◌∷◌, length, filter, take, drop, Option, Some, None, is_some, unwrap_or, string_bytes}
+use Rattle.std.specs.Prelude.{◌≡◌, ℕ, Bool, true, false, ◌++◌, List, [], ◌∷◌, length, filter, Option, Some, None, is_some, unwrap_or, string_bytes}
 use Rattle.ebpf_object_file.specs.declared.holding_line.HoldingLine.{HoldingLine}
 use Rattle.ebpf_object_file.specs.Shown.{place_row}
 use Rattle.ebpf_verify.specs.Subject.{Subject}
@@ -10,6 +10,7 @@ use Rattle.ebpf_machine.specs.declared.report.Report.{Report}
 use Rattle.ebpf_machine.specs.Whole.{is_granted, is_null, is_fetched}
 use Rattle.ebpf_host.specs.declared.refusal.Refusal.{Refusal}
 use Rattle.ebpf_host.specs.declared.stocks.Stocks.{Stocks}
+use Rattle.ebpf_host.specs.Copying.{copied}
 use Rattle.ebpf_host.specs.Finding.{AreFound}
 use Rattle.ebpf_host.specs.Leaving.{AreLeft}
 use Rattle.ebpf_host.specs.Reports.{IsReportWithin}
@@ -22,10 +23,6 @@ is_empty Empty = true
 is_empty Shelf = false
 is_empty Null = false
 is_empty Granted = false
-
--- as many of the items as there is room for, and the rest of the room as it was
-abbrev pub copied : {X : Type 0} → List X → List X → List X
-copied items room = take (length room) items ++ drop (length items) room
 
 -- a code, a slot and a sentence with a zero after it, as far as there is room; the zero is not counted
 pub record IsReported (code : List ℕ) (slot : ℕ) (sentence room text : List ℕ) (filled : Refused) : Type 0 where

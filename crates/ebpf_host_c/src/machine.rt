@@ -11,7 +11,8 @@ ghost use Rattle.ebpf_host.specs.Stocks.{stock_of};
 ghost use Rattle.ebpf_host.specs.Whole.{whole};
 ghost use Rattle.ebpf_handle.specs.declared.view.ProgramView.{ProgramView};
 ghost use Rattle.ebpf_handle.specs.contracts.view.ProgramView.{the_row as view_row};
-ghost use Rattle.ebpf_host_c.specs.Handles.{IsRunReported, MachineGoes, PagesStay, ShelvesStay};
+ghost use Rattle.ebpf_host.specs.Shelving.{ShelvesStay};
+ghost use Rattle.ebpf_host_c.specs.Handles.{IsRunReported, MachineGoes, PagesStay};
 ghost use Rattle.ebpf_host_c.specs.Reported.{IsReportWritten};
 ghost use Rattle.ebpf_host_c.specs.declared.status.TheConstants.{CONTEXT, DONE, EMPTY, NO_MEMORY, PAGES};
 

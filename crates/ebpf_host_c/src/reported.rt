@@ -3,8 +3,10 @@
 ghost use Rattle.std.specs.Prelude.{◌≡◌, ◌≤◌, ◌++◌, ◌∷◌, [], IfSome, OnOk, OnErr, filter, is_some, length, string_bytes, unwrap_or};
 ghost use Rattle.ebpf_machine.specs.Whole.{is_granted, is_null, is_fetched};
 ghost use Rattle.ebpf_host_c.specs.Objects.{IsFaultReported, IsLineIn, IsLineOfFault, fault_slot};
-ghost use Rattle.ebpf_host_c.specs.Reported.{IsReported, IsReportedWith, copied, is_empty, line_under};
+ghost use Rattle.ebpf_host.specs.Copying.{copied};
+ghost use Rattle.ebpf_host_c.specs.Reported.{IsReported, IsReportedWith, is_empty, line_under};
 
+use ebpf_host::copying::copy;
 use ebpf_host::refusal::Refusal;
 use ebpf_machine::ended::Ended;
 use ebpf_machine::report::Reply;
@@ -55,17 +57,6 @@ pub struct Reported {
 pub struct InFile<'a> {
     pub file: &'a [u8],
     pub place: Place,
-}
-
-// Copies as many items as there is room for.
-fn copy<T: Copy>(items: &[T], room: &mut [T])
-    ensures { room.new ≡ copied items.now room.old }
-{
-    if items.len() <= room.len() {
-        room[..items.len()].copy_from_slice(items);
-    } else {
-        room.copy_from_slice(&items[..room.len()]);
-    }
 }
 
 // Copies a sentence and a zero after it, as far as there is room.

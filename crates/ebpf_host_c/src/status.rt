@@ -20,3 +20,12 @@ pub const EMPTY: u32 = 5;
 
 /// An allocation failed.
 pub const NO_MEMORY: u32 = 6;
+
+/// No kind has the number.
+pub const KIND: u32 = 7;
+
+/// An object of the kind has fewer bytes.
+pub const LENGTH: u32 = 8;
+
+/// There is no page, or no memory, for one more object.
+pub const NO_OBJECT: u32 = 9;

@@ -5,7 +5,9 @@ ghost use Rattle.std.specs.Prelude.{◌≡◌};
 use ebpf_host::machine::Machine;
 use ebpf_host::program::Program;
 use ebpf_host::refusal::LoadFault;
+use ebpf_host::shelving::PutFault;
 use ebpf_machine::report::Report;
+use ebpf_object::KindName;
 use std::alloc::{AllocError, Global};
 use std::process::Abort;
 
@@ -38,6 +40,11 @@ b701000001000000b70200000000000085000000040000001500050000000000bf06000000000000
 
 // Returns four bytes of the context.
 const READ: &str = "61100000000000009500000000000000";
+
+// Return the eight bytes of a context, and the last two with their sign.
+const READ_WORD: &str = "79100000000000009500000000000000";
+
+const READ_SIGNED: &str = "89100600000000009500000000000000";
 
 // Counts down from 3 in a loop, and returns 0.
 const COUNT: &str = "b70000000300000017000000010000005500feff000000009500000000000000";
@@ -295,4 +302,61 @@ fn the_data_of_a_program_comes_after_the_context(rt: HostRuntime) {
         100,
         "the context doesn't have the declared length",
     );
+}
+
+#[test]
+fn a_load_may_lie_on_both_sides_of_the_end_of_the_context(rt: HostRuntime) {
+    let alloc = rt.alloc();
+    let mut machine = machine_of(&rt, alloc, 1);
+    for (context, after) in [
+        ("", "0102030405060780"),
+        ("01", "02030405060780"),
+        ("01020304", "05060780"),
+        ("01020304050607", "80"),
+        ("0102030405060780", ""),
+    ] {
+        for (program, expected) in [
+            (READ_WORD, "exit 9225348980303659521 executed 2 peak 0"),
+            (READ_SIGNED, "exit 18446744073709518855 executed 2 peak 0"),
+        ] {
+            let after = bytes_of(&rt, alloc, after);
+            assert!(rt; after.len() <= 8);
+            let read = loaded(&rt, alloc, program, 8, 0).with_data(after);
+            runs(&rt, alloc, &mut machine, &read, context, 100, expected);
+        }
+    }
+}
+
+#[test]
+fn a_host_and_programs_leave_objects_for_each_other(rt: HostRuntime) {
+    let alloc = rt.alloc();
+    let mut machine = machine_of(&rt, alloc, 1);
+    let mut room = [1; 10];
+    assert!(rt; !machine.take(KindName::Record, &mut room) && room[0] == 1);
+    let replaced = machine.put(KindName::Record, &[7, 0, 0, 0, 0, 0, 0, 0]);
+    assert!(rt; matches!(replaced, Ok(false)));
+    let fetch = loaded(&rt, alloc, FETCH, 0, 1);
+    runs(
+        &rt,
+        alloc,
+        &mut machine,
+        &fetch,
+        "",
+        100,
+        "emit 7 exit 0 executed 11 peak 1",
+    );
+    let leave = loaded(&rt, alloc, LEAVE, 1, 1);
+    runs(
+        &rt,
+        alloc,
+        &mut machine,
+        &leave,
+        "2a",
+        100,
+        "exit 0 executed 11 peak 1",
+    );
+    assert!(rt; machine.take(KindName::Record, &mut room));
+    assert!(rt; room[0] == 42 && room[1] == 0 && room[8] == 255 && room[9] == 255);
+    let long = machine.put(KindName::Cell, &[0; 17]);
+    assert!(rt; matches!(long, Err(PutFault::TooLong)));
 }

@@ -4,6 +4,7 @@ use Rattle.ebpf_machine.specs.RunState.{RunState}
 use Rattle.ebpf_machine.proofs.WholeRuns.Starts.{starts}
 use Rattle.ebpf_machine.proofs.WholeRuns.Told.{IsUnderWay, under_way}
 use Rattle.ebpf_machine.proofs.WholeRuns.Ends.{goes_last}
+use Rattle.ebpf_host.specs.Whole.{whole}
 use Rattle.ebpf_host.proofs.CutOff.{within}
 use Rattle.ebpf_host.proofs.Finding.{finds}
 use Rattle.ebpf_host.proofs.Leaving.{leaves}
@@ -20,7 +21,7 @@ run-requires-clause-alone g c =
 
 -- what holds of the run where it has stopped
 ran : (g : Over) (c : After-end_in_place g)
-    → IsUnderWay g.O.Objects.store c.args.objects.now c.run.new.objects c.args.program.now.verified c.args.context.now c.run.new.self
+    → IsUnderWay g.O.Objects.store c.args.objects.now c.run.new.objects c.args.program.now.verified (whole c.args.program.now c.args.context.now) c.run.new.self
 ran g c =
     let o = g.O.Objects.store in
     let start = starts o c.args.objects.now _ _ c.in_ok-run.run' c.in_ok-run.ensures.started (c.in_ok-run.ensures.sound _) in

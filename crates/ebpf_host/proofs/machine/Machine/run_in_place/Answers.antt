@@ -3,14 +3,12 @@ use Rattle.ebpf_host.specs.declared.stocks.Stocks.{Stocks}
 use Rattle.ebpf_host.proofs.Finding.{found_on_machine}
 use Rattle.ebpf_host.proofs.Leaving.{on_machine}
 use Rattle.ebpf_host.specs.Stocks.{bytes_on}
-use Rattle.ebpf_host.specs.Whole.{whole}
 use Rattle.ebpf_host.proofs.machine.Machine.run_in_place.Goals as goal
 
 pub returns-clause-shelves : goal.returns-clause-shelves
 returns-clause-shelves c =
     let was : c.deref_mut-stocks.result.now ≡ c.args.self.now = search rules in
-    let joined : c.in-Ok.joined.now ≡ whole c.args.program.now c.args.context.now = c.in-Ok.ensures in
-    rw (← was, ← joined)
+    rw (← was)
     (on_machine c.deref_mut-stocks.result.now c.run_within.new.objects c.args.program.now.verified _ c.in_ok-ended.ended c.in_ok-ended.ensures.shelves)
 
 pub returns-clause-pages : goal.returns-clause-pages
@@ -21,8 +19,7 @@ returns-clause-pages c =
 pub returns-clause-found : goal.returns-clause-found
 returns-clause-found c =
     let was : c.deref_mut-stocks.result.now ≡ c.args.self.now = search rules in
-    let joined : c.in-Ok.joined.now ≡ whole c.args.program.now c.args.context.now = c.in-Ok.ensures in
-    rw (← was, ← joined) (found_on_machine c.deref_mut-stocks.result.now c.args.program.now.verified _ c.in_ok-ended.ended c.in_ok-ended.ensures.found)
+    rw (← was) (found_on_machine c.deref_mut-stocks.result.now c.args.program.now.verified _ c.in_ok-ended.ended c.in_ok-ended.ensures.found)
 
 pub run_within-requires-clause-tells : goal.run_within-requires-clause-tells
 run_within-requires-clause-tells c = record {
