@@ -62,7 +62,7 @@ pub struct Turns {
     pub exits: Vec<String>,
 }
 
-/// Why [`crate::forward::forward`] made no program.
+/// Why [`crate::forward::lead_forward`] made no program.
 ///
 /// # Errors
 /// It fails only where an allocation fails, or failed there.

@@ -1,8 +1,8 @@
 -- What is asked for by a function that reads data of its file and the options, and why nothing is.
 use Rattle.std.specs.Prelude.{◌≡◌, ◌⊎◌, ℕ, zero, suc, ◌++◌, List, Option, Some, None}
 use Rattle.ebpf_object_file.specs.declared.data_function.DataFunction.{DataFunction}
-use Rattle.ebpf_object_file.specs.declared.function.Function.{Function}
-use Rattle.ebpf_object_file.specs.DataFunction.{IsDataFault, IsDataFunction}
+use Rattle.ebpf_object_file.specs.DataFunction.{HasUses, IsDataFault, IsDataFunction}
+use Rattle.ebpf_object_file.specs.File.{AreFunctions}
 use Rattle.ebpf_state.specs.declared.kinds.KindRow.{KindRow}
 use Rattle.ebpf_verify.specs.declared.decl.Decl.{Decl}
 use Rattle.ebpf_command.specs.declared.done.FaultCode.{FaultCode}
@@ -31,8 +31,14 @@ own_slot None = None
 own_slot (Some zero) = None
 own_slot (Some (suc slot)) = Some slot
 
+-- the sections that a function uses are in its file, and so are the symbols
+pub record CanNameData (file : List ℕ) (f : DataFunction) : Type 0 where
+  pub uses : HasUses file f.uses.items
+  pub functions : AreFunctions f.functions.file.now f.functions
+  pub same : f.functions.file.now ≡ file
+
 -- the linked program is asked for, with the data after the context
-pub record IsJoined (f : Function) (context : List ℕ) (l : Loaded) (r : DataRequest) : Type 0 where
+pub record IsJoined (f : DataFunction) (context : List ℕ) (l : Loaded) (r : DataRequest) : Type 0 where
   pub function : r.function ≡ f
   pub bytes : r.request.bytes.items ≡ l.bytes.items
   pub context_is : r.request.context.items ≡ context ++ l.data.items
@@ -48,7 +54,7 @@ pub record IsRequestOf (ask : Ask) (file : List ℕ) (f : DataFunction) (r : Dat
   pub given : AreGiven (asked_of ask f) decl rows
   pub loaded : Loaded
   pub is : IsLoadedWith file f decl rows loaded
-  pub joined : IsJoined f.function (asked_of ask f).context loaded r
+  pub joined : IsJoined f (asked_of ask f).context loaded r
 
 pub record IsDataRequest (ask : Ask) (name file : List ℕ) (r : DataRequest) : Type 0 where
   pub function : DataFunction

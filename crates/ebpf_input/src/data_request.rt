@@ -1,9 +1,8 @@
 //! What is asked of a command over a function that reads data of its object file.
 
 ghost use Rattle.std.specs.Prelude.{◌≡◌, IfOk, IfErr, length};
-ghost use Rattle.ebpf_object_file.specs.DataFunction.{HasUses};
 ghost use Rattle.ebpf_input.specs.NoRequest.{CanBeNamed};
-ghost use Rattle.ebpf_input.specs.DataRequest.{IsDataRequest, IsNoRequest, IsJoined, IsNoRequestOf, IsRequestOf, own_slot};
+ghost use Rattle.ebpf_input.specs.DataRequest.{CanNameData, IsDataRequest, IsNoRequest, IsJoined, IsNoRequestOf, IsRequestOf, own_slot};
 
 use crate::ask::Ask;
 use crate::form::Form;
@@ -12,7 +11,6 @@ use ebpf_command::done::{FaultCode, Stop};
 use ebpf_loader::fault::LoadFault;
 use ebpf_loader::load::{Loaded, load};
 use ebpf_object_file::data_function::{DataFault, DataFunction, function_with_data};
-use ebpf_object_file::function::Function;
 use ebpf_object_file::object_fault::ObjectFault;
 use ebpf_state::kinds::kinds;
 use std::alloc::{AllocError, Global};
@@ -21,7 +19,7 @@ use std::alloc::{AllocError, Global};
 #[derive(Drop)]
 pub struct DataRequest<'a> {
     /// The function. The program has one slot more than it, in front.
-    pub function: Function<'a>,
+    pub function: DataFunction<'a>,
     /// The linked program, the context with the data at its end, and what is declared of both.
     pub request: Request,
     /// The bytes of the data alone.
@@ -71,6 +69,8 @@ pub fn requested_with_data<'a>(
 ) -> Result<DataRequest<'a>, NoRequest<'a>>
     ensures found { IfOk result (IsDataRequest ask.now name.now file.now) }
     ensures declared { IfOk result (λ r. r.request.decl.context ≡ length r.request.context.items) }
+    // What its data can be laid out from, and what names it.
+    ensures data { IfOk result (λ r. CanNameData file.now r.function) }
     ensures refused { IfErr result (λ e. IsNoRequest ask.now name.now file.now e) }
     ensures named { IfErr result (λ e. CanBeNamed file.now e) }
 {
@@ -88,9 +88,10 @@ fn requested_of<'a>(
     file: &[u8],
     function: DataFunction<'a>,
 ) -> Result<DataRequest<'a>, NoRequest<'a>>
-    requires uses { HasUses file.now function.uses.items }
+    requires data { CanNameData file.now function }
     ensures found { IfOk result (IsRequestOf ask.now file.now function.entry) }
     ensures declared { IfOk result (λ r. r.request.decl.context ≡ length r.request.context.items) }
+    ensures data { IfOk result (λ r. CanNameData file.now r.function) }
     ensures refused { IfErr result (λ e. IsNoRequestOf ask.now file.now function.entry e) }
     ensures named { IfErr result (λ e. CanBeNamed file.now e) }
 {
@@ -101,7 +102,7 @@ fn requested_of<'a>(
         Err(Stop::NoMemory) => return Err(NoRequest::NoMemory),
     };
     match load(alloc, file, &function, request.decl, &kinds()) {
-        Ok(loaded) => match joined(function.function, request, loaded) {
+        Ok(loaded) => match joined(function, request, loaded) {
             Ok(request) => Ok(request),
             Err(AllocError) => Err(NoRequest::NoMemory),
         },
@@ -111,7 +112,7 @@ fn requested_of<'a>(
 
 // The request for what was loaded: the data is put after the context. It fails only where an allocation fails.
 fn joined<'a>(
-    function: Function<'a>,
+    function: DataFunction<'a>,
     request: Request,
     loaded: Loaded,
 ) -> Result<DataRequest<'a>, AllocError>

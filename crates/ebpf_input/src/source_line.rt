@@ -1,6 +1,7 @@
 //! The line of C that holds at a slot of a function, and how it is written.
 
-ghost use Rattle.std.specs.Prelude.{◌≡◌, ◌++◌, OnOk, None, slice_index_or, string_bytes};
+ghost use Rattle.std.specs.Prelude.{◌≡◌, ◌++◌, IfOk, OnOk, None, length, slice_index_or, string_bytes};
+ghost use Rattle.ebpf_object_file.specs.Shown.{AreHolding};
 ghost use Rattle.ebpf_input.specs.Formats.{column_member, place_in, source_row_in};
 ghost use Rattle.ebpf_input.specs.SourceLine.{heading, held_before};
 
@@ -8,7 +9,22 @@ use crate::json_text::{write_source_head, write_source_tail};
 use ebpf_command::format::Format;
 use ebpf_object_file::holding_line::HoldingLine;
 use ebpf_object_file::lines::{Line, Lines};
-use std::alloc::AllocError;
+use std::alloc::{AllocError, Global};
+
+/// The line that holds at each of that many slots of a function that begins at a byte of its section. It fails only where an allocation fails.
+pub fn held_lines(
+    alloc: Global,
+    lines: Lines<'_>,
+    from: u64,
+    slots: usize,
+) -> Result<Vec<Option<Line>>, AllocError>
+    ensures whole { IfOk result (λ holding. length holding.items ≡ slots) }
+    ensures held { IfOk result (λ holding. AreHolding lines.entry from holding.items) }
+{
+    let mut holding: Vec<Option<Line>> = vec![in alloc; None; slots]?;
+    lines.at_slots(from, &mut holding);
+    Ok(holding)
+}
 
 /// The line that holds at a slot.
 pub fn held_at(holding: &[Option<Line>], slot: usize) -> Option<Line>

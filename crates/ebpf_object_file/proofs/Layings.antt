@@ -5,9 +5,9 @@ use Rattle.std.specs.List.{range_with_len, flat_map}
 use Rattle.std.proofs.lemmas.Grind.{flat_map-append}
 use Rattle.std.proofs.lemmas.Bool.{cases_lt}
 use Rattle.std.proofs.lemmas.Bool.Decides.{eqb_tells}
-use Rattle.std.proofs.lemmas.List.{length-set, get_or-set_same, get_or-set_other, get_or_append_left, take-append-le, map-append, length_push, take_more}
+use Rattle.std.proofs.lemmas.List.{length-set, get_or-set_same, get_or-set_other, get_or_append_left, take-append-le, map-append, length_push, take_more, get_or_default}
 use Rattle.std.proofs.lemmas.List.Elements.{All-push, filter-append}
-use Rattle.std.proofs.lemmas.List.Sums.{sum_by-append, sum_by-take-le}
+use Rattle.std.proofs.lemmas.List.Sums.{sum_by-append, sum_by-take-le, sum_by_more_le}
 use Rattle.std.proofs.Math.Seq.{take-append_seam, get_or-append_seam}
 use Rattle.ebpf_object_file.specs.declared.data_use.DataUse.{DataUse}
 use Rattle.ebpf_object_file.specs.declared.data_parts.Part.{Part}
@@ -275,3 +275,15 @@ bytes_more file parts k lt =
     ∙ ap (λ (x : List ℕ). flat_map bytes (take k parts) ++ x) (append_none (bytes (part_at parts k))) where
       bytes : Part → List ℕ
       bytes p = bytes_of file p.section
+
+-- each part ends within what all of them may have
+pub parts_near : (file : List ℕ) (l : Laying) → IsLayingIn file l → All (λ (p : Part). p.from + p.size ≤ MOST_BYTES) l.parts.items
+parts_near file l is k d lt =
+    let parts = l.parts.items in
+    let size : Part → ℕ = λ p. p.size in
+    let from : (part_at parts k).from ≡ sum_by size (take k parts) = is.whole.begins k lt in
+    let within = sum_by_more_le size parts k no_part lt in
+    let total = is.size in
+    let most = is.most in
+    let near : (part_at parts k).from + (part_at parts k).size ≤ MOST_BYTES = omega (arith, from, within, total, most) in
+    subst (λ (p : Part). p.from + p.size ≤ MOST_BYTES) (get_or_default parts k no_part d lt) near

@@ -14,6 +14,7 @@ pub mod Unlined
 pub mod Fresh
 pub mod Below
 pub mod Marked
+pub mod WholeSymbols
 pub mod Uses
 pub mod Loads
 pub mod Layings

@@ -55,6 +55,7 @@ pub record IsDataFunction (file name : List ℕ) (d : DataFunction) : Type 0 whe
   pub meant : Meant
   pub is : IsMeant file name meant
   pub at : IsAt file meant.functions.symbols.now meant.number d.function
+  pub functions : d.functions ≡ meant.functions
   pub loads : AreLoads file meant.functions.symbols.now d.function d.uses.items
 
 -- the uses are of sections of the file, which can be read

@@ -17,6 +17,7 @@ pub mod Data
 pub mod DataFunction
 pub mod Reading
 pub mod DataParts
+pub mod DataNames
 pub mod Laying
 pub mod Sentences
 pub mod Shown

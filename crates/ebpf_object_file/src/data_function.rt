@@ -24,6 +24,8 @@ use std::alloc::{AllocError, Global};
 #[derive(Drop)]
 pub struct DataFunction<'a> {
     pub function: Function<'a>,
+    /// The functions of the file.
+    pub functions: Functions<'a>,
     pub uses: Vec<Option<DataUse>>,
 }
 
@@ -163,8 +165,10 @@ pub fn function_with_data<'a>(
 ) -> Result<DataFunction<'a>, DataFault<'a>>
     ensures found { IfOk result (λ d. IsDataFunction file.now name.now d) }
     ensures refused { IfErr result (λ e. IfObject e (λ o. IsDataFault file.now name.now o)) }
-    // What its data can be taken from.
+    // What its data can be taken from, and what names it.
     ensures data { IfOk result (λ d. HasUses file.now d.uses.items) }
+    ensures names { IfOk result (λ d. AreFunctions d.functions.file.now d.functions) }
+    ensures file { IfOk result (λ d. d.functions.file.now ≡ file.now) }
 {
     let Meant { functions, number } = match find_meant(file, name) {
         Ok(meant) => meant,
@@ -180,7 +184,11 @@ pub fn function_with_data<'a>(
         Err(fault) => return Err(DataFault::Object(ObjectFault::File(fault))),
     };
     match loads(alloc, functions, function) {
-        Ok(uses) => Ok(DataFunction { function, uses }),
+        Ok(uses) => Ok(DataFunction {
+            function,
+            functions,
+            uses,
+        }),
         Err(fault) => Err(fault),
     }
 }

@@ -1,6 +1,6 @@
 //! The read-only data of a function as one piece: the whole sections that it uses, side by side.
 
-ghost use Rattle.std.specs.Prelude.{◌≡◌, ◌<◌, ◌≤◌, IfOk, pos, ◌+ℤ◌};
+ghost use Rattle.std.specs.Prelude.{◌≡◌, ◌<◌, ◌≤◌, ◌+◌, ◌^◌, All, IfOk, pos, ◌+ℤ◌};
 ghost use Rattle.ebpf_object_file.specs.declared.data_parts.TheConstants.{MOST_BYTES};
 ghost use Rattle.ebpf_object_file.specs.Header.{header_of};
 ghost use Rattle.ebpf_object_file.specs.Section.{sections_in};
@@ -95,6 +95,8 @@ impl DataFunction<'_> {
         requires { HasUses file.now self.now.uses.items }
         ensures laid { IfOk result (λ d. IsLaid file.now self.now.uses.items d) }
         ensures parts { IfOk result (λ d. HasParts file.now d) }
+        // So that sums with the length of a context are numbers of 64 bits.
+        ensures near { IfOk result (λ d. All (λ p. p.from + p.size ≤ 2 ^ 62) d.parts.items) }
     {
         let header = header_of(file);
         let mut laying = Laying {

@@ -1,4 +1,4 @@
-use Rattle.std.proofs.Common.{◌≡◌, ◌+◌, ◌++◌, ℕ, List, length, refl, sym, ap, ◌∙◌}
+use Rattle.std.proofs.Common.{◌+◌, ◌++◌, ℕ, List, length, refl, sym, ap, ◌∙◌}
 use Rattle.std.proofs.lemmas.List.{length-append}
 use Rattle.ebpf_verify.specs.declared.decl.Decl.{Decl}
 use Rattle.ebpf_command.proofs.KindLemmas.{AreRows-kinds}
@@ -44,8 +44,8 @@ returns-in-Ok-joined-clause-declared c =
     ap (λ (d : Decl). d.context) j.decl ∙ c.in-Ok-load.ensures.declared ∙ ap (λ (n : ℕ). n + length new) c.in-Ok.ensures.declared.0
     ∙ sym (length-append old new) ∙ sym (ap (λ (x : List ℕ). length x) j.context_is)
 
-pub returns-clause-refused : goal.returns-clause-refused
-returns-clause-refused c =
+pub returns-in-Err-clause-refused : goal.returns-in-Err-clause-refused
+returns-in-Err-clause-refused c =
     let asked = asked_of c.args.ask.now c.args.function in
     let e = c.in-Ok.ensures in
     let given : AreGiven asked c.in-Ok.request.decl c.kinds.result = record {

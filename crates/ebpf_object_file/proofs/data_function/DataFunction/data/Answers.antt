@@ -8,7 +8,7 @@ use Rattle.ebpf_object_file.specs.declared.header.Header.{Header}
 use Rattle.ebpf_object_file.specs.Section.{sections_in}
 use Rattle.ebpf_object_file.specs.DataParts.{used_sections}
 use Rattle.ebpf_object_file.proofs.Fresh.{same_at}
-use Rattle.ebpf_object_file.proofs.Layings.{none_laid, laid_none, laid_more, none_used}
+use Rattle.ebpf_object_file.proofs.Layings.{none_laid, laid_none, laid_more, none_used, parts_near}
 use Rattle.ebpf_object_file.proofs.data_function.DataFunction.data.Goals.{in-Some+in_ok-from, in_default}
 use Rattle.ebpf_object_file.proofs.data_function.DataFunction.data.Goals as goal
 
@@ -59,3 +59,6 @@ returns-clause-laid c =
       slots = i.slots;
       offsets = λ slot lt. i.laid slot (subst (λ (x : ℕ). slot < x) (sym all) lt);
     }
+
+pub returns-clause-near : goal.returns-clause-near
+returns-clause-near c = parts_near c.args.file.now c.loop-slot.laying c.loop-slot.invariant.laying
