@@ -9,7 +9,6 @@ use Rattle.ebpf_object_file.specs.declared.function.Function.{Function}
 use Rattle.ebpf_object_file.specs.declared.object_fault.ObjectFault.{ObjectFault}
 use Rattle.ebpf_object_file.specs.Function.{IsWanted}
 use Rattle.ebpf_state.specs.declared.kinds.KindRow.{KindRow}
-use Rattle.ebpf_state.specs.Kinds.{AreKinds}
 use Rattle.ebpf_verify.specs.declared.decl.Decl.{Decl}
 use Rattle.ebpf_forward.specs.declared.fault.ForwardFault.{ForwardFault}
 use Rattle.ebpf_forward.specs.declared.forward.Forward.{Forward}
@@ -30,7 +29,7 @@ use Rattle.ebpf_input.specs.declared.form.Form.TheVariants.{Raw}
 use Rattle.ebpf_input.specs.declared.under.InFile.{InFile}
 use Rattle.ebpf_input.specs.Asked.{Asked, AreGiven, asked_for, fault_of}
 use Rattle.ebpf_input.specs.declared.data_request.DataRequest.{DataRequest}
-use Rattle.ebpf_input.specs.DataRequest.{RespondsData, own_slot}
+use Rattle.ebpf_input.specs.DataRequest.{RespondsData}
 use Rattle.ebpf_input.specs.Formats.{refused_why_in, fault_why_in}
 use Rattle.ebpf_input.specs.InputFaults.{undecoded_sentence, fault_sentence}
 use Rattle.ebpf_input.specs.NoRequest.{RespondsNoRequest}
@@ -41,7 +40,7 @@ use Rattle.ebpf_one.specs.CopiesText.{SaysCopies}
 use Rattle.ebpf_one.specs.declared.linked.Link.{Link}
 use Rattle.ebpf_one.specs.declared.running.Running.{Running}
 use Rattle.ebpf_one.specs.declared.unroll.Wanted.{Wanted}
-use Rattle.ebpf_one.specs.LinkedText.{SendsLinked}
+use Rattle.ebpf_one.specs.LinkedText.{RespondsLinked, SendsLinked}
 use Rattle.ebpf_one.specs.RunText.{IsRunOf, RunsForward}
 
 -- ---- a program of which every jump leads forward is written, or run
@@ -111,22 +110,14 @@ abbrev pub UnrollsFunction : Ask → Option Bool → List ℕ → Function → R
 UnrollsFunction ask nulls file f response =
     (function : InFile) × (function.file.now ≡ file) × (function.place ≡ f.place) × UnrollsTo ask nulls (Some function) Raw f.code.now response
 
--- The response to a function that was linked with data of its file: what is said of its program, and the line of C of the function's own slot.
-pub record UnrollsLinked (format : Format) (nulls : Option Bool) (file : List ℕ) (r : DataRequest) (response : Response) : Type 0 where
-  pub rows : List KindRow
-  pub kinds : AreKinds rows
+-- what is said of a program that was linked with data of its file
+pub record UnrollsRequest (format : Format) (nulls : Option Bool) (r : DataRequest) (rows : List KindRow) (link : Link) (slot : Option ℕ) (said : Response) : Type 0 where
   pub run : Option Running
   pub runs : IsRunOf nulls r.request.context.items run
-  pub link : Link
-  pub after : link.bytes.items ≡ r.«data».items
-  pub word : link.word ≡ r.word
-  pub slot : Option ℕ
-  pub said : Response
   pub is : UnrollsDecoded format (record { run = run; link = Some link }) (decode_fault r.request.bytes.items) r.request.bytes.items r.request.decl rows slot said
-  pub function : InFile
-  pub in_file : function.file.now ≡ file
-  pub in_place : function.place ≡ r.function.place
-  pub over : IsOver format (Some function) (own_slot slot) said response
+
+abbrev pub UnrollsLinked : Format → Option Bool → List ℕ → DataRequest → Response → Type 0
+UnrollsLinked format nulls file r = RespondsLinked format file r (UnrollsRequest format nulls r)
 
 -- the response to a function that reads data of its file
 abbrev pub UnrollsWithData : Ask → Option Bool → Refusing

@@ -20,7 +20,7 @@ use ebpf_command::format::Format;
 use ebpf_command::json::write_quoted;
 use ebpf_input::in_format::answer_refused;
 use ebpf_input::object::{answer_file_fault, answer_object_fault};
-use ebpf_input::source_line::{held_at, held_before, write_heading};
+use ebpf_input::source_line::{held_at, held_before, held_lines, write_heading};
 use ebpf_insn::decode::decode;
 use ebpf_insn::fault::DecodeFault;
 use ebpf_insn::insn::Insn;
@@ -260,8 +260,7 @@ fn list_lined<'a>(
     ensures { IfOk result (ListsDataSourced format file.now function.now lines.entry) }
 {
     let code = function.function.code;
-    let mut holding: Vec<Option<Line>> = vec![in alloc; None; code.len() / 8]?;
-    lines.at_slots(function.function.place.from, &mut holding);
+    let holding = held_lines(alloc, lines, function.function.place.from, code.len() / 8)?;
     let headed = Headed {
         lines,
         holding: &holding,

@@ -3,19 +3,20 @@
 ghost use Rattle.std.specs.Prelude.{◌≡◌, IfOk, string_bytes};
 ghost use Rattle.ebpf_insn.specs.Decoding.{decode_fault};
 ghost use Rattle.ebpf_command.specs.Writing.{Performs};
-ghost use Rattle.ebpf_input.specs.ObjectText.{RespondsInput};
 ghost use Rattle.ebpf_one.specs.Alike.{WritesInputAsHex};
+ghost use Rattle.ebpf_one.specs.LayOutLinked.{LaysOutInput};
 ghost use Rattle.ebpf_one.specs.LayOutText.{hex_in, LaysOut, LaysOutDecoded, LaysOutProgram, IsHexOf};
 
+use crate::lay_out_linked::lay_out_with_data;
 use ebpf_command::answer::{Answer, answer_fault_in, write_answer};
 use ebpf_command::done::{Done, EngineFault, Stop};
 use ebpf_command::format::Format;
 use ebpf_command::input::read_input;
 use ebpf_forward::why_not::why_not_laid;
-use ebpf_input::ask::Input;
+use ebpf_input::ask::{Ask, Input};
 use ebpf_input::form::Form;
 use ebpf_input::input_faults::answer_undecoded;
-use ebpf_input::object::{answer_object_fault, taken};
+use ebpf_input::object::taken;
 use ebpf_input::request::given_bytes;
 use ebpf_input::why_not::answer_why_not;
 use ebpf_insn::decode::decode;
@@ -29,6 +30,10 @@ use std::io::{Read, Write};
 /// Reads a program and writes it in a format as hex with its instructions in an order in which every jump leads forward, without those that
 /// are not reached; or which edge closes a loop, or why the program can't be laid out otherwise.
 ///
+/// A function that reads data of its object file is linked with it first, for the context and the objects that are asked for; nothing else is
+/// judged by them. Then the data is written too, as [`crate::unroll::unroll`] does, and the program is refused if the verifier refuses it, or if it
+/// isn't certain to keep the context's pointer in the word of the stack that was taken for it.
+///
 /// # Errors
 /// `Input` where a read failed and `NoMemory` where an allocation failed: nothing was written then. `Output` where a write
 /// failed or took nothing.
@@ -36,15 +41,14 @@ pub fn lay_out<R: Read, W: Write>(
     alloc: Global,
     reader: &mut R,
     writer: &mut W,
-    format: Format,
-    input: &Input<'_>,
+    ask: &Ask<'_>,
 ) -> Result<Done, EngineFault>
-    ensures done { Performs (RespondsInput format input.now (LaysOut format)) (R.remaining reader.old) (R.remaining reader.new)
+    ensures done { Performs (LaysOutInput ask.now) (R.remaining reader.old) (R.remaining reader.new)
         (W.contents writer.old) (W.contents writer.new) writer.old writer.new result }
     // Where the input is raw bytes, it is the text of each hex text of them.
-    ensures as_hex { WritesInputAsHex (LaysOut format) input.now (R.remaining reader.old) (W.contents writer.old) (W.contents writer.new) result }
+    ensures as_hex { WritesInputAsHex (LaysOut ask.now.format) ask.now.input (R.remaining reader.old) (W.contents writer.old) (W.contents writer.new) result }
 {
-    respond(alloc, reader, writer, format, input)
+    respond(alloc, reader, writer, ask)
 }
 
 // Reads the input, answers it, and writes the answer.
@@ -52,31 +56,25 @@ fn respond<R: Read, W: Write>(
     alloc: Global,
     reader: &mut R,
     writer: &mut W,
-    format: Format,
-    input: &Input<'_>,
+    ask: &Ask<'_>,
 ) -> Result<Done, EngineFault>
-    ensures { Performs (RespondsInput format input.now (LaysOut format)) (R.remaining reader.old) (R.remaining reader.new)
+    ensures { Performs (LaysOutInput ask.now) (R.remaining reader.old) (R.remaining reader.new)
         (W.contents writer.old) (W.contents writer.new) writer.old writer.new result }
 {
-    let bytes = read_input(alloc, reader)?;
-    let answer = lay_out_asked(alloc, format, input, &bytes)?;
+    let input = read_input(alloc, reader)?;
+    let answer = lay_out_asked(alloc, ask, &input)?;
     write_answer(writer, answer)
 }
 
 // The response to an input, by what it is.
-fn lay_out_asked(
-    alloc: Global,
-    format: Format,
-    input: &Input<'_>,
-    bytes: &[u8],
-) -> Result<Answer, AllocError>
-    ensures { IfOk result (RespondsInput format input.now (LaysOut format) bytes.now) }
+fn lay_out_asked(alloc: Global, ask: &Ask<'_>, input: &[u8]) -> Result<Answer, AllocError>
+    ensures { IfOk result (LaysOutInput ask.now input.now) }
 {
-    match *input {
-        Input::Program(form) => lay_out_input(alloc, format, form, bytes),
-        Input::Object(name) => match taken(name, bytes) {
-            Ok(slots) => lay_out_input(alloc, format, Form::Raw, slots),
-            Err(fault) => answer_object_fault(alloc, format, bytes, fault),
+    match ask.input {
+        Input::Program(form) => lay_out_input(alloc, ask.format, form, input),
+        Input::Object(name) => match taken(name, input) {
+            Ok(bytes) => lay_out_input(alloc, ask.format, Form::Raw, bytes),
+            Err(_) => lay_out_with_data(alloc, ask, name, input),
         },
     }
 }

@@ -6,8 +6,8 @@
 //! knows, which the contract leaves open. The program that an input gives comes from ebpf_input, and all else rests on the contracts of the
 //! crates below. This crate adds what the four ask for and the lines of their texts.
 //!
-//! To be read in this order: `alone`, `text`, `json_text`, `answer`, `one`, `data_list`, `source_list`, `list`, `lay_out`;
-//! `copies_text`, `running`, `linked`, `unroll`.
+//! To be read in this order: `alone`, `text`, `json_text`, `answer`, `one`, `data_list`, `source_list`, `list`;
+//! `copies_text`, `running`, `linked`, `lay_out_linked`, `lay_out`, `unroll`.
 #![tactic(auto)]
 
 mod alone;
@@ -16,6 +16,7 @@ mod copies_text;
 mod data_list;
 mod json_text;
 pub mod lay_out;
+mod lay_out_linked;
 mod linked;
 pub mod list;
 pub mod one;

@@ -5,7 +5,7 @@ ghost use Rattle.ebpf_flow.specs.Flow.{flow_fault};
 ghost use Rattle.ebpf_machine.specs.World.{kinds_of};
 ghost use Rattle.ebpf_machine.specs.Kinds.{known_kinds};
 ghost use Rattle.ebpf_state.specs.Kinds.{AreKinds};
-ghost use Rattle.ebpf_one.specs.LinkedText.{SendsAccepted, SendsLaid, SendsLinked, SendsRight};
+ghost use Rattle.ebpf_one.specs.LinkedText.{IsOverOwn, SendsAccepted, SendsLaid, SendsLinked, SendsRight};
 ghost use Rattle.ebpf_one.specs.RunText.{IsDeclared};
 
 use crate::answer::answer_verified;
@@ -15,10 +15,13 @@ use ebpf_command::answer::Answer;
 use ebpf_command::codes::RefusalCode;
 use ebpf_command::format::Format;
 use ebpf_forward::forward::Forward;
+use ebpf_input::data_request::own_slot;
 use ebpf_input::in_format::answer_refused;
 use ebpf_input::no_request::answer_no_word;
+use ebpf_input::under::{InFile, SlotAnswer, with_line};
 use ebpf_layout::layout::Laid;
 use ebpf_link::right::is_right;
+use ebpf_object_file::outside::Place;
 use ebpf_state::kinds::KindRow;
 use ebpf_verify::decl::Decl;
 use ebpf_verify::fault::VerifyFault;
@@ -59,8 +62,8 @@ pub(crate) fn send_linked(
     }
 }
 
-// The response to one that was laid out.
-fn send_laid(
+/// The response to one that was laid out. It fails only where an allocation fails.
+pub(crate) fn send_laid(
     alloc: Global,
     format: Format,
     laid: Laid,
@@ -122,4 +125,23 @@ fn send_right(
         Some(run) => answer_verified(alloc, format, verified, run.context, run.nulls),
         None => answer_linked(alloc, format, verified.program(), of, after),
     }
+}
+
+/// The answer to a function that was linked, with the line of C that holds at the function's own slot under it. The linked program has one slot
+/// more. It fails only where an allocation fails.
+pub(crate) fn under_own(
+    format: Format,
+    file: &[u8],
+    place: Place,
+    said: SlotAnswer,
+) -> Result<Answer, AllocError>
+    ensures { IfOk result (IsOverOwn format file.now place said.slot said.answer) }
+{
+    let SlotAnswer { answer, slot } = said;
+    let slot = own_slot(slot);
+    with_line(
+        format,
+        SlotAnswer { answer, slot },
+        Some(InFile { file, place }),
+    )
 }

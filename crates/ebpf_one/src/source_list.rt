@@ -18,7 +18,7 @@ use ebpf_command::input::MAX_INPUT;
 use ebpf_input::form::Form;
 use ebpf_input::in_format::answer_refused;
 use ebpf_input::object::answer_file_fault;
-use ebpf_input::source_line::{held_at, held_before, write_heading};
+use ebpf_input::source_line::{held_at, held_before, held_lines, write_heading};
 use ebpf_insn::decode::decode;
 use ebpf_insn::fault::DecodeFault;
 use ebpf_insn::program::Program;
@@ -91,8 +91,7 @@ fn source_program(
 ) -> Result<Answer, AllocError>
     ensures { IfOk result (IsSourced format lines.entry from program.now) }
 {
-    let mut holding: Vec<Option<Line>> = vec![in alloc; None; program.slots()]?;
-    lines.at_slots(from, &mut holding);
+    let holding = held_lines(alloc, lines, from, program.slots())?;
     Ok(Answer {
         text: sourced(alloc, format, program, lines, &holding)?,
         done: Done::Clean,

@@ -10,7 +10,7 @@ ghost use Rattle.ebpf_one.specs.UnrollText.{DoesForward, UnrollsInput, UnrollsOb
 ghost use Rattle.ebpf_one.specs.UnrollText.{UnrollsLinked, UnrollsProgram, UnrollsWithData};
 
 use crate::copies_text::answer_copies;
-use crate::linked::{Link, send_linked};
+use crate::linked::{Link, send_linked, under_own};
 use crate::running::{Running, run_forward, run_of};
 use ebpf_command::answer::{Answer, write_answer};
 use ebpf_command::done::{Done, EngineFault, Stop};
@@ -19,7 +19,7 @@ use ebpf_command::input::{MAX_INPUT, read_input};
 use ebpf_forward::forward::{Forward, lead_forward};
 use ebpf_forward::why_not::why_not;
 use ebpf_input::ask::{Ask, Input};
-use ebpf_input::data_request::{DataRequest, own_slot, requested_with_data};
+use ebpf_input::data_request::{DataRequest, requested_with_data};
 use ebpf_input::form::Form;
 use ebpf_input::input_faults::{answer_undecoded, answer_unused};
 use ebpf_input::no_request::answer_no_request;
@@ -177,6 +177,7 @@ fn unroll_linked(
         data,
         word,
     } = linked;
+    let place = function.function.place;
     let Request {
         bytes,
         context,
@@ -185,14 +186,7 @@ fn unroll_linked(
     let run = run_of(context, nulls);
     let link = Some(Link { bytes: data, word });
     let said = unroll_bytes(alloc, format, &bytes, decl, &kinds(), Wanted { run, link })?;
-    let SlotAnswer { answer, slot } = said;
-    let slot = own_slot(slot);
-    let place = function.place;
-    with_line(
-        format,
-        SlotAnswer { answer, slot },
-        Some(InFile { file, place }),
-    )
+    under_own(format, file, place, said)
 }
 
 // The response to a program in a form.

@@ -1,9 +1,7 @@
-use Rattle.std.proofs.Common.{◌≡◌, ℕ, ℤ, List, Option, Some, refl, subst, w16, to_z, of_z, rules}
+use Rattle.std.proofs.Common.{◌≡◌, ℕ, ℤ, List, Some, refl, subst, w16, to_z, of_z, rules}
 use Rattle.std.proofs.lemmas.Int.{to_z-of_z}
 use Rattle.std.proofs.lemmas.Result.{IfOk-weaker}
 use Rattle.ebpf_insn.specs.Decoding.{decode_fault}
-use Rattle.ebpf_input.specs.declared.under.InFile.{InFile}
-use Rattle.ebpf_input.specs.Under.{IsOver}
 use Rattle.ebpf_one.specs.declared.linked.Link.{Link}
 use Rattle.ebpf_one.specs.UnrollText.{UnrollsDecoded}
 use Rattle.ebpf_one.proofs.unroll.unroll_linked.Goals as goal
@@ -21,22 +19,16 @@ returns c =
     back c.in_ok-said.ensures in
     let is = subst (λ (bytes : List ℕ). UnrollsDecoded c.args.format (record { run = run; link = Some link }) (decode_fault bytes) bytes request.decl c.kinds.result said.slot said.answer)
     c.deref.ensures.value with_word in
-    let function : InFile = record { file = c.args.file; place = c.args.linked.function.place } in
-    IfOk-weaker c.with_line.result _ _
+    IfOk-weaker c.under_own.result _ _
     (λ response h. record {
       rows = c.kinds.result;
       kinds = c.kinds.ensures;
-      run = run;
-      runs = c.run_of-run.ensures;
       link = link;
       after = refl;
       word = refl;
       slot = said.slot;
       said = said.answer;
-      is = is;
-      function = function;
-      in_file = refl;
-      in_place = refl;
-      over = subst (λ (k : Option ℕ). IsOver c.args.format (Some function) k said.answer response) c.own_slot-slot.ensures h;
+      is = record { run = run; runs = c.run_of-run.ensures; is = is };
+      over = h;
     })
-    c.with_line.ensures
+    c.under_own.ensures
