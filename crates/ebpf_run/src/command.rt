@@ -69,7 +69,7 @@ pub enum Task<'a> {
     List(ListOptions<'a>),
     Explain(ExplainOptions<'a>),
     Graph(GraphOptions<'a>),
-    LayOut(LayOutOptions<'a>),
+    LayOut(Ask<'a>),
     Unroll(Ask<'a>),
     Assemble,
     Check(CheckOptions),
@@ -118,15 +118,6 @@ pub struct ListOptions<'a> {
     pub input: Input<'a>,
     /// Whether the lines of C of an object file are written too.
     pub lines: bool,
-    /// How the answer is written.
-    pub format: Format,
-}
-
-/// The options of `lay-out`.
-#[derive(Clone, Copy)]
-pub struct LayOutOptions<'a> {
-    /// What the input is.
-    pub input: Input<'a>,
     /// How the answer is written.
     pub format: Format,
 }
@@ -283,7 +274,7 @@ fn lay_out_command<'a>(alloc: Global) -> Result<Command<'a>, AllocError> {
         .about("Reorders the instructions of a program so that every jump goes forward")
         .after_help(LAY_OUT_EXAMPLE)
         .arg(json_option(alloc))?;
-    with_program(alloc, lay_out)
+    with_judged_program(alloc, lay_out)
 }
 
 fn unroll_command<'a>(alloc: Global) -> Result<Command<'a>, AllocError> {
@@ -402,7 +393,7 @@ fn task_of<'a>(name: &str, given: &ArgMatches<'a>) -> Option<Task<'a>> {
         "list" => Some(Task::List(list_options(given))),
         "explain" => Some(Task::Explain(explain_options(given))),
         "graph" => Some(Task::Graph(graph_options(given))),
-        "lay-out" => Some(Task::LayOut(lay_out_options(given))),
+        "lay-out" => Some(Task::LayOut(asked(given, format_of(given)))),
         "unroll" => Some(Task::Unroll(asked(given, format_of(given)))),
         "assemble" => Some(Task::Assemble),
         "check" => Some(Task::Check(check_options(given))),
@@ -466,14 +457,6 @@ fn list_options<'a>(given: &ArgMatches<'a>) -> ListOptions<'a> {
     ListOptions {
         input: input_of(given),
         lines: given.get_flag("source"),
-        format: format_of(given),
-    }
-}
-
-// The options of `lay-out`.
-fn lay_out_options<'a>(given: &ArgMatches<'a>) -> LayOutOptions<'a> {
-    LayOutOptions {
-        input: input_of(given),
         format: format_of(given),
     }
 }

@@ -124,13 +124,7 @@ fn perform<R: AllocGlobal + Clock + Eprint + Input + Print + Threads + Wait + Sy
         Task::List(options) => perform_list(alloc, reader, &mut writer, options),
         Task::Explain(options) => perform_explain(alloc, reader, &mut writer, options),
         Task::Graph(options) => perform_graph(alloc, reader, &mut writer, options),
-        Task::LayOut(options) => lay_out(
-            alloc,
-            reader,
-            &mut writer,
-            options.format,
-            &options.input,
-        ),
+        Task::LayOut(ask) => lay_out(alloc, reader, &mut writer, &ask),
         Task::Unroll(ask) => unroll(alloc, reader, &mut writer, &ask),
         Task::Assemble => assemble(alloc, reader, &mut writer),
         Task::Check(options) => {

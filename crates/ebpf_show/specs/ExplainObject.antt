@@ -1,6 +1,6 @@
 -- The response of `explain` to an object file: that to the slots of the function that is asked for, or to what they are linked to with the
 -- data that they read, with the function's lines of C where the file has them.
-use Rattle.std.specs.Prelude.{◌≡◌, ◌≤◌, ◌<◌, ◌⊎◌, ◌/◌, ℕ, Bool, true, false, List, length, Option, Some, None}
+use Rattle.std.specs.Prelude.{◌≡◌, ◌≤◌, ◌<◌, ◌⊎◌, ◌/◌, ℕ, Bool, true, false, List, length, Option, Some, None, string_bytes}
 use Rattle.ebpf_object_file.specs.declared.fault.FileFault.{FileFault}
 use Rattle.ebpf_object_file.specs.declared.function.Function.{Function}
 use Rattle.ebpf_object_file.specs.declared.lines.Lines.{Lines}
@@ -15,6 +15,7 @@ use Rattle.ebpf_command.specs.Writing.{Responding}
 use Rattle.ebpf_input.specs.declared.ask.Ask.{Ask}
 use Rattle.ebpf_input.specs.declared.ask.Input.{Input}
 use Rattle.ebpf_input.specs.declared.ask.Input.TheVariants.{Program, Object}
+use Rattle.ebpf_input.specs.declared.data_request.DataRequest.{DataRequest}
 use Rattle.ebpf_input.specs.declared.form.Form.TheVariants.{Raw}
 use Rattle.ebpf_input.specs.declared.request.Request.{Request}
 use Rattle.ebpf_input.specs.Asked.{Asked}
@@ -24,9 +25,11 @@ use Rattle.ebpf_input.specs.ObjectText.{Refusing, IsTakenFault, object_fault_lin
 use Rattle.ebpf_show.specs.declared.explain_object.Code.{Code}
 use Rattle.ebpf_show.specs.declared.explain_object.Code.TheVariants.{Own, Linked}
 use Rattle.ebpf_show.specs.declared.explain_object.Detail.{Detail}
+use Rattle.ebpf_show.specs.declared.explain_object.LinkedCode.{LinkedCode}
 use Rattle.ebpf_show.specs.declared.shown.Shown.{Shown}
 use Rattle.ebpf_show.specs.declared.sourced.Sourced.{Sourced}
 use Rattle.ebpf_show.specs.Copies.{linked_slots}
+use Rattle.ebpf_show.specs.DataRows.{AreDataRows, after_rows}
 use Rattle.ebpf_show.specs.Shown.{ExplainsTo, ExplainsWith, IsCopiedShown, ShowsBytes, states_of}
 
 -- the context of a linked program has as many bytes as are declared
@@ -35,19 +38,20 @@ IsWholeRequest r = r.decl.context ≡ length r.context.items
 
 abbrev pub IsWhole : Code → Type 0
 IsWhole (Own bytes) = Unit {0}
-IsWhole (Linked r) = IsWholeRequest r
+IsWhole (Linked l) = IsWholeRequest l.request
 
 abbrev pub asked_in : Request → Asked
 asked_in r = record { bytes = r.bytes.items; context = r.context.items; held = r.decl.held }
 
--- a linked program is shown with the function's own slots beside it, and with the lines of C that hold at them
-abbrev pub ExplainsLinked : Format → Bool → Request → Option Sourced → Response → Type 0
-ExplainsLinked format unroll r source response =
-    (shown : Shown) × IsCopiedShown linked_slots (states_of format source) shown × ShowsBytes unroll shown (asked_in r) response
+-- a linked program is shown with the function's own slots beside it, and with the lines of C that hold at them, after the rows of its data
+abbrev pub ExplainsLinked : Format → Bool → LinkedCode → Option Sourced → Response → Type 0
+ExplainsLinked format unroll l source response =
+    (shown : Shown) × IsCopiedShown linked_slots (states_of format source) shown
+    × (said : Response) × ShowsBytes unroll shown (asked_in l.request) said × (response ≡ after_rows (string_bytes l.rows) said)
 
 abbrev pub ExplainsCode : Ask → Bool → Code → Option Sourced → Response → Type 0
 ExplainsCode ask unroll (Own bytes) source response = ExplainsWith ask.format unroll source Raw ask.context.now ask.held bytes.now response
-ExplainsCode ask unroll (Linked r) source response = ExplainsLinked ask.format unroll r source response
+ExplainsCode ask unroll (Linked l) source response = ExplainsLinked ask.format unroll l source response
 
 -- it is explained with the line that holds at each slot of the function
 pub record ExplainsLined (ask : Ask) (d : Detail) (l : Lines) (f : Function) (code : Code) (response : Response) : Type 0 where
@@ -73,10 +77,15 @@ ExplainsFunction ask d file f code response =
     ⊎ (HasNoLinesOf file f.place.section × ExplainsCode ask d.unroll code None response)
     ⊎ ((e : FileFault) × IsLinesOfFault file f.place.section e × ExplainsUnread ask d e code response)
 
+-- the response to a function that was linked with data of its file
+abbrev pub ExplainsRequest : Ask → Detail → List ℕ → DataRequest → Response → Type 0
+ExplainsRequest ask d file r response =
+    (l : LinkedCode) × (l.request ≡ r.request) × AreDataRows ask.format r (string_bytes l.rows)
+    × ExplainsFunction ask d file r.function.function (Linked l) response
+
 -- the response to a function that reads data of its file
 abbrev pub ExplainsWithData : Ask → Detail → Refusing
-ExplainsWithData ask d name file =
-    RespondsData ask (λ r response. ExplainsFunction ask d file r.function (Linked r.request) response) (RespondsNoRequest ask) name file
+ExplainsWithData ask d name file = RespondsData ask (ExplainsRequest ask d file) (RespondsNoRequest ask) name file
 
 -- the file is too long, which `explain` says of it, or has the function that is asked for, or that one is no program by itself
 abbrev pub ExplainsObject : Ask → Detail → List ℕ → Responding

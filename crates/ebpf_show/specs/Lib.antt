@@ -4,5 +4,6 @@ pub mod Sourced
 pub mod ExplainText
 pub mod GraphText
 pub mod Shown
+pub mod DataRows
 pub mod ExplainObject
 pub mod GraphInput

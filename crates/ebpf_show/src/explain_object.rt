@@ -1,12 +1,15 @@
 //! What `explain` writes of a function of an object file, with its lines of C.
 
-ghost use Rattle.std.specs.Prelude.{◌≡◌, IfOk, None};
+ghost use Rattle.std.specs.Prelude.{◌≡◌, IfOk, None, string_bytes};
 ghost use Rattle.ebpf_object_file.specs.declared.object_fault.ObjectFault.{ObjectFault};
 ghost use Rattle.ebpf_show.specs.ExplainObject.{ExplainsCode, ExplainsLined, ExplainsLinked, ExplainsUnread, ExplainsFunction, ExplainsObject};
-ghost use Rattle.ebpf_show.specs.ExplainObject.{ExplainsWithData, IsWhole, IsWholeRequest};
+ghost use Rattle.ebpf_input.specs.DataRequest.{CanNameData};
+ghost use Rattle.ebpf_show.specs.DataRows.{after_rows};
+ghost use Rattle.ebpf_show.specs.ExplainObject.{ExplainsRequest, ExplainsWithData, IsWhole, IsWholeRequest};
 ghost use Rattle.ebpf_show.specs.Shown.{states_of};
 
 use crate::copies::linked_slots;
+use crate::data_rows::data_rows;
 use crate::made::{copied, lines_of as lines_at};
 use crate::shown::{Shown, show_input, show_request};
 use crate::sourced::{Beside, Sourced};
@@ -14,14 +17,15 @@ use ebpf_command::answer::Answer;
 use ebpf_command::format::Format;
 use ebpf_command::input::MAX_INPUT;
 use ebpf_input::ask::Ask;
-use ebpf_input::data_request::requested_with_data;
+use ebpf_input::data_request::{DataRequest, requested_with_data};
 use ebpf_input::form::Form;
 use ebpf_input::no_request::answer_no_request;
 use ebpf_input::object::answer_file_fault;
 use ebpf_input::request::Request;
+use ebpf_input::source_line::held_lines;
 use ebpf_object_file::fault::FileFault;
 use ebpf_object_file::function::{Function, wanted_function};
-use ebpf_object_file::lines::{Line, Lines};
+use ebpf_object_file::lines::Lines;
 use ebpf_object_file::source::lines_of;
 use std::alloc::{AllocError, Global};
 
@@ -40,7 +44,15 @@ pub(crate) enum Code<'a> {
     /// Its slots, as bytes.
     Own(&'a [u8]),
     /// The program that it was linked to with the data that it reads.
-    Linked(Request),
+    Linked(LinkedCode),
+}
+
+/// A program that a function was linked to.
+#[derive(Drop)]
+pub(crate) struct LinkedCode {
+    pub request: Request,
+    /// The rows that say which bytes of its context are which data.
+    pub rows: String,
 }
 
 // What is shown of a program with the lines of C that are known.
@@ -70,7 +82,7 @@ fn explain_code(
             let shown = states_of(ask.format, source);
             show_input(alloc, shown, unroll, ask, Form::Raw, slots)
         }
-        Code::Linked(request) => explain_linked(alloc, ask.format, request, source, unroll),
+        Code::Linked(linked) => explain_linked(alloc, ask.format, linked, source, unroll),
     }
 }
 
@@ -78,17 +90,31 @@ fn explain_code(
 fn explain_linked(
     alloc: Global,
     format: Format,
-    request: Request,
+    linked: LinkedCode,
     source: Option<Sourced<'_>>,
     unroll: bool,
 ) -> Result<Answer, AllocError>
-    requires { IsWholeRequest request }
-    ensures { IfOk result (ExplainsLinked format unroll request source.entry) }
+    requires { IsWholeRequest linked.request }
+    ensures { IfOk result (ExplainsLinked format unroll linked source.entry) }
 {
+    let LinkedCode { request, rows } = linked;
     let shown = states_of(format, source);
     let of = linked_slots(alloc)?;
     let lines = lines_at(alloc, shown, &of)?;
-    show_request(alloc, copied(shown, &of, &lines), unroll, request)
+    let said = show_request(alloc, copied(shown, &of, &lines), unroll, request)?;
+    after_rows(rows, said)
+}
+
+// An answer after rows.
+fn after_rows(rows: String, said: Answer) -> Result<Answer, AllocError>
+    ensures { IfOk result (λ answer. answer ≡ after_rows (string_bytes rows) said) }
+{
+    let mut text = rows;
+    text.push_str(&said.text)?;
+    Ok(Answer {
+        text,
+        done: said.done,
+    })
 }
 
 // The response to a function with lines.
@@ -103,8 +129,7 @@ fn explain_lined(
     requires { IsWhole code }
     ensures { IfOk result (ExplainsLined ask.now detail lines.entry function.entry code.entry) }
 {
-    let mut holding: Vec<Option<Line>> = vec![in alloc; None; function.code.len() / 8]?;
-    lines.at_slots(function.place.from, &mut holding);
+    let holding = held_lines(alloc, lines, function.place.from, function.code.len() / 8)?;
     let source = Sourced {
         lines,
         holding: &holding,
@@ -150,6 +175,28 @@ fn explain_function(
     }
 }
 
+// The response to a function that was linked with the data that it reads.
+fn explain_request(
+    alloc: Global,
+    ask: &Ask<'_>,
+    file: &[u8],
+    linked: DataRequest<'_>,
+    detail: Detail,
+) -> Result<Answer, AllocError>
+    requires whole { IsWholeRequest linked.request }
+    requires data { CanNameData file.now linked.function }
+    ensures { IfOk result (ExplainsRequest ask.now detail file.now linked.entry) }
+{
+    let rows = data_rows(alloc, ask.format, file, &linked)?;
+    let DataRequest {
+        function,
+        request,
+        ..
+    } = linked;
+    let code = Code::Linked(LinkedCode { request, rows });
+    explain_function(alloc, ask, file, function.function, code, detail)
+}
+
 // The response to a function that is no program by itself: it is linked with the data that it reads.
 fn explain_with_data(
     alloc: Global,
@@ -161,10 +208,7 @@ fn explain_with_data(
     ensures { IfOk result (λ response. (e : ObjectFault) → ExplainsWithData ask.now detail name.now file.now e response) }
 {
     match requested_with_data(alloc, ask, name, file) {
-        Ok(linked) => {
-            let code = Code::Linked(linked.request);
-            explain_function(alloc, ask, file, linked.function, code, detail)
-        }
+        Ok(linked) => explain_request(alloc, ask, file, linked, detail),
         Err(fault) => answer_no_request(alloc, ask, file, fault),
     }
 }

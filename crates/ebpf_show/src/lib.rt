@@ -6,12 +6,14 @@
 //! (`shown`), and differ in what they write of it.
 //!
 //! [`explain::explain_unrolled`] and [`graph::graph_unrolled`] show the program that is made of it so that every jump leads forward (`made`), as it
-//! would be shown by itself; `explain` says which slots that one copies (`copies`).
+//! would be shown by itself; `explain` says which slots that one copies (`copies`). Of a function that is linked with data of its object file, `explain`
+//! first says which bytes of the context are which data (`data_rows`).
 //!
-//! To be read in this order: `explain_json`, `copies`, `sourced`, `verdict`, `shown`, `made`, `explain_object`, `explain`, `graph`.
+//! To be read in this order: `explain_json`, `copies`, `sourced`, `verdict`, `shown`, `made`, `data_rows`, `explain_object`, `explain`, `graph`.
 #![tactic(auto)]
 
 mod copies;
+mod data_rows;
 pub mod explain;
 mod explain_json;
 mod explain_object;

@@ -3,4 +3,4 @@ use Rattle.std.proofs.lemmas.Result.{IfOk-weaker}
 use Rattle.ebpf_show.proofs.explain_object.explain_with_data.Goals as goal
 
 pub returns-in-Ok : goal.returns-in-Ok
-returns-in-Ok c = IfOk-weaker c.explain_function.result _ _ (λ response h e. inl (c.in-Ok.linked, c.in-Ok.ensures.found, h)) c.explain_function.ensures
+returns-in-Ok c = IfOk-weaker c.explain_request.result _ _ (λ response h e. inl (c.in-Ok.linked, c.in-Ok.ensures.found, h)) c.explain_request.ensures
