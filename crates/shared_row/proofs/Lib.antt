@@ -1,0 +1,5 @@
+pub mod Lists
+pub mod Parts
+mod Slots
+mod Steps
+mod Ending
