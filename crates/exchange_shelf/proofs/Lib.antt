@@ -1,0 +1,5 @@
+mod Slots
+mod Steps
+mod Ending
+mod Emptying
+mod Swapping
