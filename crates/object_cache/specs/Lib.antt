@@ -1,4 +1,3 @@
-pub mod Homing
 pub mod HandView
 pub mod CacheView
 pub mod ShelfView

@@ -28,6 +28,15 @@ pub fn count<R: Wait>(rt: &R, number: &mut u64)
     *number += 1;
 }
 
+/// Waits for ever where more was counted.
+pub fn wait_past_most<R: Wait>(rt: &R, number: u64)
+    ensures { number ≤ 2 ^ 56 }
+{
+    if number > MOST {
+        wait_for_ever(rt);
+    }
+}
+
 /// Never returns.
 pub fn wait_for_ever<R: Wait>(rt: &R)
     ensures { ⊥ }

@@ -20,44 +20,21 @@ ghost use Rattle.slab_layer.specs.declared.place.Place.TheVariants.{Out};
 ghost use Rattle.magazine.specs.LayerView.{rounds_of, IsEmpty};
 ghost use Rattle.object_cache.specs.CacheView.{AreHomes};
 ghost use Rattle.slab_layer.specs.Growth.{GrowsBy, KeepsOut};
-ghost use Rattle.object_cache.specs.Homing.{SendsHome};
+ghost use Rattle.homing.specs.Homing.{SendsHome};
 
 use crate::activity::PageCounts;
 use crate::arena_lock::ArenaLock;
 use crate::cache::Cache;
+use crate::count::wait_past_most;
 use crate::fault::TakeFault;
-use crate::homing::{give_pages, go_home, unload};
 use crate::part::Refusals;
+use homing::{Remains, give_pages, go_home, unload};
 use magazine::{Layer, Magazine};
 use slab_layer::{GrowFault, Home, Kind, Obj, Ready, Slabs};
 use std::alloc::Global;
 use std::sync::Wait;
 use std::sync::ledger::{Book, Ledger, Share};
 use vmem_arena::Arena;
-
-/// What an inside counted when it was ended, which nothing else makes: how many slots were out, and how many strangers had
-/// come home.
-#[derive(Clone, Copy)]
-pub struct Remains {
-    missing: u64,
-    foreign: u64,
-}
-
-impl Remains {
-    /// How many slots were out.
-    pub fn missing(self) -> u64
-        ensures { result ≡ self.missing }
-    {
-        self.missing
-    }
-
-    /// How many strangers had come home.
-    pub fn foreign(self) -> u64
-        ensures { result ≡ self.foreign }
-    {
-        self.foreign
-    }
-}
 
 /// Slabs and books.
 pub struct Inner<K: Kind, A: Ledger, B: Ledger> {
@@ -174,7 +151,8 @@ impl<K: Kind, A: Ledger, B: Ledger> Inner<K, A, B> {
             foreign,
             ..
         } = self;
-        go_home(rt, slabs, foreign, object);
+        go_home(slabs, foreign, object);
+        wait_past_most(rt, *foreign);
         ins.add(share, 1);
     }
 
@@ -192,7 +170,8 @@ impl<K: Kind, A: Ledger, B: Ledger> Inner<K, A, B> {
             foreign,
             ..
         } = self;
-        unload(rt, slabs, foreign, magazine);
+        unload(slabs, foreign, magazine);
+        wait_past_most(rt, *foreign);
         ins.add(share, K::ROUNDS as u64);
     }
 
@@ -240,8 +219,6 @@ impl<K: Kind, A: Ledger, B: Ledger> Inner<K, A, B> {
         } = self;
         outs.audit(&mut all_outs);
         ins.audit(&mut all_ins);
-        let missing = u64::from(slabs.out());
-        slabs.end();
-        Remains { missing, foreign }
+        Remains::of(slabs, foreign)
     }
 }

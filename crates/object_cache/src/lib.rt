@@ -29,7 +29,7 @@
 //!
 //! Hands, caches and shelves must be spent by `close`, and can't be dropped.
 //!
-//! To read the files: activity, homing, inner, part, asking, brief_lock, cache, hand; spare, shelf.
+//! To read the files: activity, inner, part, asking, brief_lock, cache, hand; spare, shelf.
 #![tactic(auto)]
 
 mod activity;
@@ -40,7 +40,6 @@ mod cache;
 mod count;
 mod fault;
 mod hand;
-mod homing;
 mod inner;
 mod part;
 mod shelf;

@@ -19,7 +19,7 @@
 ghost use Rattle.std.specs.Prelude.{◌≡◌, ◌+◌, ◌^◌, ◌<◌, ◌≤◌, ◌↔◌, [], ◌++◌, length, false, vec_len, IsTrue, IsOk, IfSome, IfNone, OnOk, OnErr, IsPermutation};
 ghost use Rattle.magazine.specs.LayerView.{rounds_of, IsEmpty, IsFull};
 ghost use Rattle.object_cache.specs.CacheView.{AreHomes};
-ghost use Rattle.object_cache.specs.Homing.{SendsHome};
+ghost use Rattle.homing.specs.Homing.{SendsHome};
 
 use crate::activity::DepotCounts;
 use crate::cache::Cache;

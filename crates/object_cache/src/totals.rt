@@ -3,7 +3,7 @@
 ghost use Rattle.std.specs.Prelude.{◌≡◌};
 
 use crate::activity::{DepotCounts, PageCounts};
-use crate::inner::Remains;
+use homing::Remains;
 
 /// The sums over all hands of a cache that was closed, and what became of its objects. It always holds that
 /// `missing + frees == allocs + foreign`.

@@ -1,6 +1,6 @@
 use Rattle.std.proofs.Common.{arith}
 use Rattle.magazine.specs.LayerView.{rounds_of}
-use Rattle.object_cache.proofs.Moving.{one_more}
+use Rattle.homing.proofs.Moving.{one_more}
 use Rattle.object_cache.proofs.cache.Cache.take_back.Goals as goal
 
 pub returns-in_default-clause-even : goal.returns-in_default-clause-even

@@ -1,6 +1,6 @@
 use Rattle.std.proofs.Common.{arith}
 use Rattle.magazine.specs.LayerView.{rounds_of}
-use Rattle.object_cache.proofs.Moving.{one_more}
+use Rattle.homing.proofs.Moving.{one_more}
 use Rattle.object_cache.proofs.hand.Hand.give.Goals as goal
 use Rattle.object_cache.proofs.hand.Hand.give.Goals.{then-self-ge-MOST, else-self-ge-MOST}
 

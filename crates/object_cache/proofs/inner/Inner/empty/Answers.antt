@@ -1,7 +1,7 @@
 use Rattle.std.proofs.Common.{[], ◌∷◌, ◌∙◌, arith}
 use Rattle.magazine.specs.LayerView.{rounds_of}
-use Rattle.object_cache.proofs.Homes.{sends_both}
-use Rattle.object_cache.proofs.Moving.{list_less}
+use Rattle.homing.proofs.Homes.{sends_both}
+use Rattle.homing.proofs.Moving.{list_less}
 use Rattle.object_cache.proofs.inner.Inner.empty.Goals as goal
 
 pub loop-object-preserved : goal.loop-object-preserved

@@ -1,7 +1,7 @@
 use Rattle.std.proofs.Common.{◌≡◌, ◌+◌, length}
 use Rattle.magazine.specs.LayerView.{rounds_of}
 use Rattle.slab_layer.specs.Slots.{Pages}
-use Rattle.object_cache.specs.Homing.{SendsHome}
+use Rattle.homing.specs.Homing.{SendsHome}
 use Rattle.object_cache.proofs.inner.Inner.empty.Given as goal
 
 abbrev pub invariant-loop-object : goal.invariant-loop-object

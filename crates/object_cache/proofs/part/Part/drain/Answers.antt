@@ -1,6 +1,6 @@
 use Rattle.std.proofs.Common.{◌∙◌, arith}
-use Rattle.object_cache.proofs.Homes.{sends_both}
-use Rattle.object_cache.proofs.Moving.{list_less}
+use Rattle.homing.proofs.Homes.{sends_both}
+use Rattle.homing.proofs.Moving.{list_less}
 use Rattle.object_cache.proofs.part.Part.drain.Goals as goal
 
 pub invariant_of-self : goal.invariant_of-self

@@ -1,6 +1,6 @@
 use Rattle.std.proofs.Common.{length}
 use Rattle.slab_layer.specs.Slots.{Pages}
-use Rattle.object_cache.specs.Homing.{SendsHome}
+use Rattle.homing.specs.Homing.{SendsHome}
 use Rattle.object_cache.proofs.part.Part.drain.Given as goal
 
 abbrev pub invariant-loop-magazine : goal.invariant-loop-magazine

@@ -1,5 +1,5 @@
 use Rattle.std.proofs.Common.{refl, ◌∙◌, arith}
-use Rattle.object_cache.proofs.Moving.{list_more}
+use Rattle.homing.proofs.Moving.{list_more}
 use Rattle.object_cache.proofs.part.Part.relieve.Goals as goal
 
 pub invariant_of-self-2 : goal.invariant_of-self-2

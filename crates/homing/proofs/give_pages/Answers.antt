@@ -1,8 +1,8 @@
 use Rattle.std.proofs.Common.{refl, ap, ◌∙◌, length, arith}
 use Rattle.vmem_arena.specs.Spans.{Spans, pages_of}
-use Rattle.object_cache.proofs.Moving.{one_more}
-use Rattle.object_cache.proofs.Reaping.{had_most, had_less, out_since, place_since}
-use Rattle.object_cache.proofs.homing.give_pages.Goals as goal
+use Rattle.homing.proofs.Moving.{one_more}
+use Rattle.homing.proofs.Reaping.{had_most, had_less, out_since, place_since}
+use Rattle.homing.proofs.give_pages.Goals as goal
 
 pub loop-span-init : goal.loop-span-init
 loop-span-init g c = record {

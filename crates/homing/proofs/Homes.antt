@@ -7,7 +7,7 @@ use Rattle.std.proofs.lemmas.List.Sorted.{IsPermutation-sym, IsPermutation-to_fr
 use Rattle.slab_layer.specs.declared.place.Place.{Place}
 use Rattle.slab_layer.specs.declared.place.Place.TheVariants.{Home, Out}
 use Rattle.slab_layer.specs.Slots.{Pages, place_of, IsHome, IsOut}
-use Rattle.object_cache.specs.Homing.{SendsHome}
+use Rattle.homing.specs.Homing.{SendsHome}
 
 -- what a place is
 abbrev IsPlace : Option Place → Type 0

@@ -1,7 +1,7 @@
 use Rattle.std.proofs.Common.{ℕ, ◌≡◌, ◌+◌, ◌/◌, ◌≤◌, ◌↔◌, length}
 use Rattle.slab_layer.specs.Slots.{IsOut, Has, out_count, place_of}
-use Rattle.object_cache.proofs.Reaping.{had_below}
-use Rattle.object_cache.proofs.homing.give_pages.Given as goal
+use Rattle.homing.proofs.Reaping.{had_below}
+use Rattle.homing.proofs.give_pages.Given as goal
 
 abbrev pub invariant-loop-span : goal.invariant-loop-span
 invariant-loop-span g l = record {
