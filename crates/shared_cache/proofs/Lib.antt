@@ -1,0 +1,4 @@
+mod Rows
+mod Notes
+mod Moving
+mod Weights

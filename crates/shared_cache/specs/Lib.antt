@@ -1,0 +1,5 @@
+pub mod PlaceView
+pub mod HandView
+pub mod CacheView
+pub mod Asking
+pub mod Faults
