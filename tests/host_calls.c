@@ -1,4 +1,4 @@
-/* Each function of include/ebpf_host.h with each of its statuses; programs that are refused, each with its code, from the file that is the
+/* Each function of include/ebpf_host.h with each of its statuses; objects on shelves; programs that are refused, each with its code, from the file that is the
  * first argument; functions of the object files that are the others; programs with loops; handles that go from one thread to another; and
  * each allocation refused in turn: malloc and realloc are those below, by the linker's --wrap. */
 #include <assert.h>
@@ -86,6 +86,10 @@ static ebpf_status run(const char *context, uint64_t limit) {
 /* takes what is on the shelf of records, and gives it back */
 #define FETCH "b701000001000000b70200000000000085000000040000001500020000000000" \
               "bf010000000000008500000002000000b7000000000000009500000000000000"
+/* leaves a record with the byte of the context on the shelf of records, and gives back what was there */
+#define LEAVE "7116000000000000b701000001000000850000000100000015000800000000007b60000000000000b701000001000000" \
+              "bf0200000000000085000000040000001500020000000000bf010000000000008500000002000000b700000000000000" \
+              "9500000000000000"
 /* reads four bytes of the context */
 #define READ "61100000000000009500000000000000"
 
@@ -413,7 +417,7 @@ static long each_allocation_of_tables(const char *one, const char *several) {
     assert(load_function("", 16, 0) == EBPF_DONE);
     while (run_served(of_run)) of_run++;
     ebpf_program_free(&program);
-    assert(of_loop > 10 && of_tables > 10 && of_refusal > 10 && of_run > 1);
+    assert(of_loop > 10 && of_tables > 10 && of_refusal > 10 && of_run > 0);
     return of_loop + of_tables + of_refusal + of_run;
 }
 
@@ -469,13 +473,65 @@ static void no_items(void) {
     ebpf_machine_free(&machine);
 }
 
+/* what a shelf has, byte by byte: these bytes, and the fill of its kind after them */
+static int has(const uint8_t *there, size_t size, const char *bytes, uint8_t fill) {
+    size_t length = strlen(bytes);
+    for (size_t i = 0; i < size; i++)
+        if (there[i] != (i < length ? (uint8_t)bytes[i] : fill)) return 0;
+    return 1;
+}
+
+/* Objects that a host leaves on the shelf of a kind, and takes from there. */
+static void each_shelf(uint32_t kind, size_t size, uint8_t fill) {
+    uint8_t there[520], bytes[520] = {0};
+    bool replaced, found;
+    memset(there, 'x', sizeof there);
+    assert(ebpf_machine_take(&machine, kind, there, sizeof there, &found) == EBPF_DONE && !found && is_marked(there, sizeof there));
+    assert(ebpf_machine_put(&machine, kind, (const uint8_t *)"one", 3, &replaced) == EBPF_DONE && !replaced);
+    assert(ebpf_machine_put(&machine, kind, (const uint8_t *)"other", 5, &replaced) == EBPF_DONE && replaced);
+    assert(ebpf_machine_put(&machine, kind, bytes, size + 1, &replaced) == EBPF_LENGTH && replaced);
+    assert(ebpf_machine_take(&machine, kind, there, sizeof there, &found) == EBPF_DONE && found);
+    assert(has(there, size, "other", fill) && is_marked(there + size, sizeof there - size));
+    assert(ebpf_machine_take(&machine, kind, there, sizeof there, &found) == EBPF_DONE && !found);
+    assert(ebpf_machine_put(&machine, kind, NULL, 0, &replaced) == EBPF_DONE && !replaced);
+    memset(there, 'x', sizeof there);
+    assert(ebpf_machine_take(&machine, kind, there, 4, &found) == EBPF_DONE && found && has(there, 4, "", fill) && there[4] == 'x');
+    assert(ebpf_machine_put(&machine, kind, bytes, size, &replaced) == EBPF_DONE && !replaced);
+    assert(ebpf_machine_take(&machine, kind, NULL, 0, &found) == EBPF_DONE && found);
+}
+
+/* Shelves, as a host and programs use them. */
+static void shelves(void) {
+    uint8_t there[64] = {0};
+    bool replaced = true, found = true;
+    assert(ebpf_machine_put(&machine, EBPF_CELL, there, 0, &replaced) == EBPF_EMPTY && replaced);
+    assert(ebpf_machine_take(&machine, EBPF_CELL, there, 64, &found) == EBPF_EMPTY && found);
+    assert(ebpf_machine_new(&machine, 1) == EBPF_DONE);
+    assert(ebpf_machine_put(&machine, 3, there, 0, &replaced) == EBPF_KIND && replaced);
+    assert(ebpf_machine_take(&machine, UINT32_MAX, there, 64, &found) == EBPF_KIND && found);
+    const struct { uint32_t kind; size_t size; uint8_t fill; } kinds[] = {{EBPF_CELL, 16, 0}, {EBPF_RECORD, 64, 0xff}, {EBPF_BLOCK, 512, 0x5a}};
+    for (int i = 0; i < 3; i++) {
+        each_shelf(kinds[i].kind, kinds[i].size, kinds[i].fill);
+        assert(ebpf_machine_reap(&machine) == EBPF_DONE); /* the one page is for the next kind */
+    }
+    /* a program finds what the host has put there, and what it leaves there the host finds */
+    assert(ebpf_machine_put(&machine, EBPF_RECORD, (const uint8_t *)"*", 1, &replaced) == EBPF_DONE);
+    assert(ebpf_machine_put(&machine, EBPF_CELL, there, 0, &replaced) == EBPF_NO_OBJECT && !replaced);
+    assert(load(FETCH, 0, 1) == EBPF_DONE && run("", 100) == EBPF_DONE && report.fetched == 1);
+    assert(ebpf_machine_take(&machine, EBPF_RECORD, there, 64, &found) == EBPF_DONE && !found);
+    assert(load(LEAVE, 1, 1) == EBPF_DONE && run("61", 100) == EBPF_DONE && report.missed == 1);
+    assert(ebpf_machine_take(&machine, EBPF_RECORD, there, 64, &found) == EBPF_DONE && found && there[0] == 'a' && !there[7] && there[8] == 0xff);
+    ebpf_program_free(&program);
+    ebpf_machine_free(&machine);
+}
+
 /* each status has a text of its own, and all others have one */
 static void status_texts(void) {
-    for (ebpf_status one = EBPF_DONE; one <= EBPF_NO_MEMORY; one++)
-        for (ebpf_status other = one + 1; other <= EBPF_NO_MEMORY + 1; other++)
+    for (ebpf_status one = EBPF_DONE; one <= EBPF_NO_OBJECT; one++)
+        for (ebpf_status other = one + 1; other <= EBPF_NO_OBJECT + 1; other++)
             assert(strcmp(ebpf_status_text(one), ebpf_status_text(other)));
     assert(!strcmp(ebpf_status_text(EBPF_DONE), "done") && !strcmp(ebpf_status_text(EBPF_NO_MEMORY), "out of memory"));
-    assert(!strcmp(ebpf_status_text(EBPF_NO_MEMORY + 1), "unknown status") && !strcmp(ebpf_status_text(UINT32_MAX), "unknown status"));
+    assert(!strcmp(ebpf_status_text(EBPF_NO_OBJECT + 1), "unknown status") && !strcmp(ebpf_status_text(UINT32_MAX), "unknown status"));
 }
 
 static void *on_another_thread(void *unused) {
@@ -569,6 +625,7 @@ int main(int count, char **words) {
     a_function_unrolled(words[6]);
     shares();
     no_items();
+    shelves();
     status_texts();
     one_thread_after_another();
     long allocations = 0, of_share = 0;

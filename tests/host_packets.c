@@ -1,6 +1,7 @@
 /* A host of some threads that run one program, each on a machine of its own. The machines, and a handle of the program for each, are side
- * by side in an array, as docs/EMBEDDING.md shows it. The words: the program's slots as hex, the bytes of its context, how many objects it
- * holds, how many threads there are, and how many runs each does. It writes the nanoseconds that the runs took. */
+ * by side in an array, as docs/EMBEDDING.md shows it. The words: the program's slots as hex, or the name of its function in the object file
+ * that is the last word; the bytes of its context, how many objects it holds, how many threads there are, and how many runs each does. It
+ * writes the nanoseconds that the runs took. */
 #include <assert.h>
 #include <pthread.h>
 #include <stdio.h>
@@ -44,12 +45,29 @@ static long long now(void) {
     return time.tv_sec * 1000000000ll + time.tv_nsec;
 }
 
-int main(int count, char **words) {
-    assert(count == 6);
+/* the program by its slots */
+static ebpf_status load_slots(ebpf_program *program, const char *digits) {
     static uint8_t slots[32768];
-    size_t length = strlen(words[1]) / 2;
+    size_t length = strlen(digits) / 2;
+    ebpf_refusal refusal;
     assert(length <= sizeof slots);
-    for (size_t i = 0; i < length; i++) assert(sscanf(words[1] + 2 * i, "%2hhx", &slots[i]) == 1);
+    for (size_t i = 0; i < length; i++) assert(sscanf(digits + 2 * i, "%2hhx", &slots[i]) == 1);
+    return ebpf_program_load(program, slots, length, context, held, NULL, 0, &refusal);
+}
+
+/* the program by its function in an object file */
+static ebpf_status load_function(ebpf_program *program, const char *name, const char *path) {
+    static uint8_t bytes[32768];
+    FILE *file = fopen(path, "rb");
+    assert(file);
+    size_t length = fread(bytes, 1, sizeof bytes, file);
+    ebpf_refusal refusal;
+    assert(fclose(file) == 0 && length < sizeof bytes);
+    return ebpf_program_load_elf(program, bytes, length, name, strlen(name), context, held, NULL, 0, &refusal);
+}
+
+int main(int count, char **words) {
+    assert(count == 6 || count == 7);
     context = (uint32_t)atoi(words[2]), held = (uint32_t)atoi(words[3]);
     int many = atoi(words[4]);
     runs = strtoul(words[5], NULL, 10);
@@ -57,8 +75,7 @@ int main(int count, char **words) {
     if (context == 24) packet[0] = 0x45, packet[9] = 6, packet[22] = 0x1f, packet[23] = 0x40; /* by TCP to port 8000 */
 
     ebpf_program program = {0};
-    ebpf_refusal refusal;
-    assert(ebpf_program_load(&program, slots, length, context, held, NULL, 0, &refusal) == EBPF_DONE);
+    assert((count == 7 ? load_function(&program, words[1], words[6]) : load_slots(&program, words[1])) == EBPF_DONE);
     for (int i = 0; i < many; i++) {
         assert(ebpf_program_share(&workers[i].program, &program) == EBPF_DONE && ebpf_machine_new(&workers[i].machine, 4) == EBPF_DONE);
     }

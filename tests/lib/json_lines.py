@@ -27,6 +27,7 @@ FORMS = {
     'lost': '  {lost}\n',
     'of visit': '  slot {of}, visit {visit}\n',
     'of': '  added\n',
+    'data from to': 'context+{from}..+{to} {data}\n',
     'hex': '{hex}\n',
     'hex of': '{hex}\n',
     'hex of data': '{hex}\n{data}\n',
@@ -52,6 +53,8 @@ def lines_of(members):
     shown['ways_out'] = ''.join(f'  {way}\n' for way in members.get('exits') or ['nothing leads out of it'])
     if members.get('column') == 0:
         form = form.replace(':{column}', '')
+    if 'data' in members and members.get('from') == members.get('to', ''):
+        form = form.replace('..+{to}', '')
     return ''.join(f'emit {owner}{value}\n' for value in members.get('output', [])) + form.format(**shown)
 
 

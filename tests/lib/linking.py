@@ -77,3 +77,32 @@ def number_of(data, name, context):
         code[8 * use.slot + 4:8 * use.slot + 8] = address.to_bytes(8, 'little')[:4]
         code[8 * use.slot + 12:8 * use.slot + 16] = address.to_bytes(8, 'little')[4:]
     return run_of(bytes(code), context + after, MOST).number
+
+
+def name_at(data, at):
+    """The name that begins there, as the program shows it."""
+    name = data[at:data.index(0, at)][:255]
+    return ''.join(chr(byte) if 33 <= byte <= 126 else '?' for byte in name) or '(no name)'
+
+
+def data_name(data, section):
+    """The name of a section's data: that of the last symbol which has all of its bytes, or else the section's."""
+    headers = sections_of(data)
+    table = next(header for header in headers if number(data, header + 4, 4) == 2)
+    strings = contents(data, headers[number(data, table + 40, 4)])[0]
+    size = contents(data, headers[section])[1]
+    whole = [number(data, at, 4) for at in parts(data, {2}, 24)
+             if data[at + 4] & 15 == 1 and (number(data, at + 6, 2), number(data, at + 8, 8), number(data, at + 16, 8)) == (section, 0, size)]
+    names = contents(data, headers[number(data, 62, 2)])[0]
+    return name_at(data, strings + whole[-1] if whole else names + number(data, headers[section], 4))
+
+
+def rows_of(data, name, begin):
+    """The lines that say which bytes of a context of that length are which data of a function."""
+    sizes = {use.section: contents(data, sections_of(data)[use.section])[1] for use in uses_of(data, named(data, name))}
+    rows = []
+    for section, size in sizes.items():
+        end = f'..+{begin + size - 1}' if size > 1 else ''
+        rows += [f'context+{begin}{end} {data_name(data, section)}\n'] if size else []
+        begin += size
+    return rows

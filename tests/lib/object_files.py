@@ -13,7 +13,7 @@ KEPT = sorted(TESTS.glob('objects/kept/*.o'))
 DAMAGED = [*(path for path in FILES if path.stem not in READING), *(path for path in KEPT if path.name.startswith('section-O2-g.'))]
 
 # the commands that take a function with the data that it reads, of those of tests/object-files; the others refuse it with O4
-LINKING = {'one', 'list', 'explain', 'unroll'}
+LINKING = {'one', 'list', 'explain', 'lay-out', 'unroll'}
 
 # the fields of each header: the offset and the size of a number
 HEADER = [(4, 1), (5, 1), (6, 1), (16, 2), (18, 2), (20, 4), (32, 8), (40, 8), (52, 2), (58, 2), (60, 2), (62, 2)]

@@ -42,6 +42,10 @@ fn a_slot_loads_a_table(rt: HostRuntime) {
     let size = data.parts[0].size;
     let text = format!(in rt.alloc(); "{name} {size}").expect(&rt, "out of memory");
     is_text(&rt, "its section", text.as_str(), ".rodata.cst32 32");
+    let names = function.names(rt.alloc()).expect(&rt, "out of memory");
+    let table = names.name(data.parts[0]);
+    let text = format!(in rt.alloc(); "{table}").expect(&rt, "out of memory");
+    is_text(&rt, "the table", text.as_str(), "weights");
     holds(&rt, "one section is used", data.parts.len() == 1 && data.size == 32);
     holds(&rt, "its bytes are the table's", bytes.len() == 32 && bytes[0] == 3 && bytes[28] == 6);
     for slot in 0..data.offsets.len() {

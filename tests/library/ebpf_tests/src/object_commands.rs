@@ -23,8 +23,8 @@ one | two | nobody | fault O2 line 0
 list | two | - | fault O3 line 0
 one | table | - | accepted 9
 list | table | - | 0: ldxb r1, [r1+0]
-explain | table | - |   added
-lay-out | table | - | fault O4 line 0
+explain | table | - | context+16..+47 weights
+lay-out | table | - | 7b1a00fe0000000071110000000000005701000007000000670100000200000079a200fe0000000007020000100000000f1200000000000061200000000000009500000000000000
 lay-out | none | - | fault O1 line 0";
 
 // The context of each.
@@ -47,7 +47,7 @@ fn written(rt: &impl Abort, alloc: Global, command: &str, name: &str, function: 
         "one" => one(alloc, &mut reader, &mut writer, &ask, false),
         "list" => list(alloc, &mut reader, &mut writer, Format::Text, &input, false),
         "explain" => explain(alloc, &mut reader, &mut writer, &ask, false),
-        _ => lay_out(alloc, &mut reader, &mut writer, Format::Text, &input),
+        _ => lay_out(alloc, &mut reader, &mut writer, &ask),
     };
     (writer, done.expect(rt, "it is done"))
 }

@@ -132,7 +132,7 @@ fn is_text_of_raw(rt: &impl Abort, alloc: Global, command: &str, text: &str) {
         "one" => one(alloc, &mut reader, &mut written, &asked(Form::Raw, "-", 0), false),
         "list" => list(alloc, &mut reader, &mut written, Format::Text, &Input::Program(Form::Raw), false),
         "explain" => explain(alloc, &mut reader, &mut written, &asked(Form::Raw, "-", 0), false),
-        _ => lay_out(alloc, &mut reader, &mut written, Format::Text, &Input::Program(Form::Raw)),
+        _ => lay_out(alloc, &mut reader, &mut written, &asked(Form::Raw, "-", 0)),
     };
     let is_clean = matches!(done, Ok(Done::Clean));
     holds(
