@@ -1,0 +1,3 @@
+mod Moving
+mod Holding
+mod Steps
