@@ -10,23 +10,31 @@ use Rattle.shared_cache.specs.declared.fault.TakeFault.TheVariants.{Busy, Full, 
 abbrev pub one_more : ℕ → ℕ
 one_more n = if n == 2 ^ 56 then n else n + 1
 
--- how often a hand was given an object and gave one back, how many it has lent, and how often it was refused one, apart from those times that
--- only another thread was in the way
+-- How often a hand was given an object and gave one back; how often it took over one that another hand lent, and left one to another; how many
+-- it has lent. And how often it was refused one, apart from those times that only another thread was in the way
 pub record Counts : Type 0 where
   pub allocs : ℕ
   pub frees : ℕ
+  pub adopted : ℕ
+  pub passed : ℕ
   pub lent : ℕ
   pub nulls : ℕ
   pub busy : ℕ
 
 abbrev pub no_counts : Counts
-no_counts = record { allocs = 0; frees = 0; lent = 0; nulls = 0; busy = 0 }
+no_counts = record { allocs = 0; frees = 0; adopted = 0; passed = 0; lent = 0; nulls = 0; busy = 0 }
 
 abbrev pub lends : Counts → Counts
 lends c = record c { allocs = c.allocs + 1; lent = c.lent + 1 }
 
 abbrev pub gets_back : Counts → Counts
 gets_back c = record c { frees = c.frees + 1; lent = c.lent - 1 }
+
+abbrev pub adopts : Counts → Counts
+adopts c = record c { adopted = c.adopted + 1; lent = c.lent + 1 }
+
+abbrev pub passes_on : Counts → Counts
+passes_on c = record c { passed = c.passed + 1; lent = c.lent - 1 }
 
 abbrev pub refuses : TakeFault → Counts → Counts
 refuses Busy c = record c { busy = one_more c.busy }
@@ -66,6 +74,18 @@ refilled l slot = record { loaded = slot ∷ []; previous = l.loaded }
 abbrev pub IsSpent : HandView → Type 0
 IsSpent h = (128 ≤ h.counts.lent + length h.aside) ⊎ (2 ^ 56 ≤ h.counts.allocs)
 
+-- what it has lent and what lies aside are as many as may be, or it has taken over as many as are counted
+abbrev pub IsLaden : HandView → Type 0
+IsLaden h = (128 ≤ h.counts.lent + length h.aside) ⊎ (2 ^ 56 ≤ h.counts.adopted)
+
+-- only its counts change
+pub record Counted (old new : HandView) (counts : Counts) : Type 0 where
+  pub counts_are : new.counts ≡ counts
+  pub table : new.table ≡ old.table
+  pub layer : new.layer ≡ old.layer
+  pub aside : new.aside ≡ old.aside
+  pub notes : new.notes ≡ old.notes
+
 -- it has no object
 abbrev pub HasNone : HandView → Type 0
 HasNone h = IsEmpty h.layer × (h.aside ≡ [])
@@ -99,12 +119,13 @@ pub record LiesAside (old new : HandView) (slot : ℕ) : Type 0 where
   pub aside : new.aside ≡ old.aside ++ slot ∷ []
 
 -- What a hand keeps, with what its pass is: the objects that left the places for it, and those that it was given back, are as many as those
--- that it brought there, those that it lent, its rounds, and what lies aside. For all that is lent there is room aside.
+-- that it brought there, those that it lent, its rounds, and what lies aside. For all that is lent there is room aside, and what is lent is what
+-- was given out or taken over, and neither came back nor was left to another.
 pub record IsHand (h : HandView) (p : PassView) (capacity : ℕ) : Type 0 where
   pub idle : p.out ≡ []
   pub part : p.parts ≡ 1
   pub even : p.right + h.counts.frees ≡ p.left + h.counts.allocs + length (rounds_of h.layer) + length h.aside
-  pub balance : h.counts.lent + h.counts.frees ≡ h.counts.allocs
+  pub balance : h.counts.lent + h.counts.frees + h.counts.passed ≡ h.counts.allocs + h.counts.adopted
   pub most : h.counts.lent + length h.aside ≤ 128
   pub room : 128 ≤ capacity
-  pub few : (h.counts.allocs ≤ 2 ^ 56) × (h.counts.nulls ≤ 2 ^ 56) × (h.counts.busy ≤ 2 ^ 56)
+  pub few : (h.counts.allocs ≤ 2 ^ 56) × (h.counts.adopted ≤ 2 ^ 56) × (h.counts.nulls ≤ 2 ^ 56) × (h.counts.busy ≤ 2 ^ 56)

@@ -3,3 +3,4 @@ pub mod HandView
 pub mod CacheView
 pub mod Asking
 pub mod Faults
+pub mod Last

@@ -8,11 +8,12 @@ ghost use Rattle.shared_row.specs.Views.{IsIdleAt, fresh_pass};
 ghost use Rattle.shared_cache.specs.Asking.{Found, Moves, WasAsked, WasBusy};
 ghost use Rattle.shared_cache.specs.Faults.{IsGiven};
 ghost use Rattle.shared_cache.specs.HandView.{fresh_hand};
+ghost use Rattle.shared_cache.specs.Last.{one_if};
 ghost use Rattle.shared_cache.specs.PlaceView.{empty_place};
 ghost use Rattle.shared_cache.specs.declared.count.TheConstants.{MAX_HANDS};
 
 use crate::arena::{ArenaPass, SharedArena};
-use crate::closing::{emptied, gathered, out_of, parted};
+use crate::closing::{emptied, gathered, out_of, parted, sent_home};
 use crate::count::MAX_HANDS;
 use crate::hand::Hand;
 use crate::place::{Place, PlacePass, Places};
@@ -21,7 +22,7 @@ use crate::reaping::{drain_all, give_all, give_pages_at};
 use crate::totals::Totals;
 use homing::Remains;
 use shared_row::Row;
-use slab_layer::Kind;
+use slab_layer::{Held, Kind, Obj};
 use std::alloc::{AllocError, Global};
 use std::marker::Model;
 use std::sync::Mutex;
@@ -141,11 +142,13 @@ impl<K: Kind> Cache<K> {
         give_pages_at(&self.row, &mut hand.pass, arena, pages, pauses)
     }
 
-    /// Ends the cache with all its hands, and adds up what they did. What hands and depots have goes home first, and each page with
-    /// nothing out goes back to the arena, unless another thread has that after as many pauses.
+    /// Ends the cache with all its hands, and adds up what they did. What hands and depots have goes home first, with the last object, if
+    /// there is one that no hand is to give back: it is counted among those that came back. Then each page with nothing out goes back to
+    /// the arena, unless another thread has that after as many pauses.
     pub fn close(
         self,
         hands: Vec<Hand<K>>,
+        last: Option<Obj<K, Held>>,
         arena: &SharedArena,
         pages: &mut ArenaPass,
         pauses: u32,
@@ -155,7 +158,7 @@ impl<K: Kind> Cache<K> {
         requires pages { IsIdleAt arena.now.table pages.old }
         ensures pages { Moves pages.old pages.new 0 0 }
         ensures allocs { result.allocs ≡ sum_by (λ h. h.counts.allocs) hands.items }
-        ensures frees { result.frees ≡ sum_by (λ h. h.counts.frees) hands.items }
+        ensures frees { result.frees ≡ sum_by (λ h. h.counts.frees) hands.items + one_if last }
         ensures nulls { result.nulls ≡ sum_by (λ h. h.counts.nulls) hands.items }
         ensures busy { result.busy ≡ sum_by (λ h. h.counts.busy) hands.items }
         ensures balance { result.missing + result.frees ≡ result.allocs + result.foreign }
@@ -169,12 +172,13 @@ impl<K: Kind> Cache<K> {
             room,
         } = self;
         let PassRoom { passes } = room.into_inner();
-        let (passes, racks, sums) = parted(&row, hands, passes, racks);
+        let (passes, racks, mut sums) = parted(&row, hands, passes, racks);
         let places = row.close(passes, into);
         // No more strangers can have come than slots are out, so no count below is too great for a word.
         out_of(places.as_slice());
         let (mut slabs, mut foreign, others) = gathered(places);
         emptied(racks, &mut slabs, &mut foreign);
+        sums.frees += sent_home(&mut slabs, &mut foreign, last);
         give_all(&mut slabs, arena, pages, pauses);
         Totals::new(Remains::of(slabs, foreign).add(others), sums)
     }

@@ -11,14 +11,16 @@ ghost use Rattle.slab_layer.specs.Slots.{out_count};
 ghost use Rattle.shared_row.specs.Views.{IsIdleAt};
 ghost use Rattle.shared_cache.specs.HandView.{objects};
 ghost use Rattle.shared_cache.specs.PlaceView.{ins, outs};
+ghost use Rattle.shared_cache.specs.Last.{one_if};
+ghost use Rattle.shared_cache.specs.declared.count.TheConstants.{MAX_HANDS};
 
 use crate::hand::Hand;
 use crate::place::{Place, PlacePass, Places};
 use crate::rack::Rack;
 use crate::sums::Sums;
-use homing::{Remains, unload};
+use homing::{Remains, go_home, unload};
 use magazine::Depot;
-use slab_layer::{Kind, Slabs};
+use slab_layer::{Held, Kind, Obj, Slabs};
 
 /// Takes hands apart, into lists that have room for what they are.
 pub fn parted<K: Kind>(
@@ -28,7 +30,7 @@ pub fn parted<K: Kind>(
     mut racks: Vec<Rack<K>>,
 ) -> (Vec<PlacePass<K>>, Vec<Rack<K>>, Sums)
     requires table { All (λ h. h.table ≡ row.now.table) hands.items }
-    requires few { vec_len hands ≤ 64 }
+    requires few { vec_len hands ≤ MAX_HANDS }
     requires none { (passes.items ≡ []) × (racks.items ≡ []) }
     requires room { (vec_len hands ≤ vec_capacity passes) × (vec_len hands ≤ vec_capacity racks) }
     ensures passes { All (IsIdleAt row.now.table) result.0.items × (vec_len result.0 ≡ vec_len hands) }
@@ -39,7 +41,7 @@ pub fn parted<K: Kind>(
     ensures busy { result.2.busy ≡ sum_by (λ h. h.counts.busy) hands.items }
     ensures even { sum_by (λ p. p.right) result.0.items + result.2.frees ≡
         sum_by (λ p. p.left) result.0.items + result.2.allocs + sum_by (λ r. objects r.layer r.aside.items) result.1.items }
-    ensures less { result.2.frees ≤ result.2.allocs }
+    ensures few { (result.2.frees ≤ MAX_HANDS * 2 ^ 57) × (result.2.allocs ≤ MAX_HANDS * 2 ^ 56) }
 {
     let mut sums = Sums::none();
     while let Some(hand) = hands.pop() {
@@ -54,9 +56,9 @@ pub fn parted<K: Kind>(
 
 /// How many slots are out of the slabs of all places.
 pub fn out_of<K: Kind>(places: &[Box<Place<K>>]) -> u64
-    requires { length places.now ≤ 65 }
+    requires { length places.now ≤ MAX_HANDS + 1 }
     ensures counted { result ≡ sum_by (λ b. outs b.value) places.now }
-    ensures few { result ≤ 65 * 2 ^ 32 }
+    ensures few { result ≤ (MAX_HANDS + 1) * 2 ^ 32 }
 {
     let mut out = 0;
     for place in places {
@@ -81,12 +83,12 @@ fn take_in<K: Kind>(slabs: &mut Slabs<K>, foreign: &mut u64, mut depot: Depot<K>
 /// have no page, counted.
 pub fn gathered<K: Kind>(mut places: Vec<Box<Place<K>>>) -> (Slabs<K>, u64, Remains)
     requires some { 0 < vec_len places }
-    requires few { vec_len places ≤ 65 }
+    requires few { vec_len places ≤ MAX_HANDS + 1 }
     requires room { sum_by (λ b. ins b.value) places.items < 2 ^ 64 }
     ensures counted { out_count result.0 + result.2.missing + sum_by (λ b. ins b.value) places.items ≡
         sum_by (λ b. outs b.value) places.items + result.1 + result.2.foreign }
     ensures few { result.1 + result.2.foreign ≤ sum_by (λ b. ins b.value) places.items }
-    ensures missing { result.2.missing ≤ 65 * 2 ^ 32 }
+    ensures missing { result.2.missing ≤ (MAX_HANDS + 1) * 2 ^ 32 }
 {
     let Some(last) = places.pop() else {
         unreachable!()
@@ -113,4 +115,23 @@ pub fn emptied<K: Kind>(mut racks: Vec<Rack<K>>, slabs: &mut Slabs<K>, foreign: 
         rack.end(slabs, foreign);
     }
     racks.destroy_empty();
+}
+
+/// Sends an object home that no hand has, if there is one, with its image restored. The answer is how many there were.
+pub fn sent_home<K: Kind>(
+    slabs: &mut Slabs<K>,
+    foreign: &mut u64,
+    last: Option<Obj<K, Held>>,
+) -> u64
+    requires room { foreign.old + 1 < 2 ^ 64 }
+    ensures counted { out_count slabs.new + foreign.old + one_if last ≡ out_count slabs.old + foreign.new }
+    ensures one { result ≡ one_if last }
+{
+    match last {
+        Some(object) => {
+            go_home(slabs, foreign, object.restore());
+            1
+        }
+        None => 0,
+    }
 }

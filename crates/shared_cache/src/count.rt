@@ -8,8 +8,8 @@ ghost use Rattle.shared_cache.specs.HandView.{one_more};
 /// The most that is counted.
 pub const MOST: u64 = 1 << 56;
 
-/// The most hands of a cache.
-pub const MAX_HANDS: u32 = 64;
+/// The most hands of a cache: one for each of 64 threads, and one for whoever reaps.
+pub const MAX_HANDS: u32 = 65;
 
 /// The most objects that a hand has lent and aside together.
 pub const MOST_LENT: u64 = 128;

@@ -10,13 +10,13 @@
 //! counts of all hands can be compared with what is out of the slabs.
 
 ghost use Rattle.std.specs.Prelude.{◌≡◌, ◌⊎◌, ◌↔◌, ◌+◌, ◌<◌, ◌≤◌, ◌^◌, [], ◌∷◌, ◌++◌, length, replicate};
-ghost use Rattle.std.specs.Prelude.{IsTrue, IfOk, IfErr, OnErr, MatchResult, IsPermutation};
+ghost use Rattle.std.specs.Prelude.{IsTrue, false, IfOk, OnOk, IfErr, OnErr, MatchResult, IsPermutation};
 ghost use Rattle.magazine.specs.LayerView.{rounds_of, IsEmpty, IsFull};
 ghost use Rattle.shared_row.specs.Views.{IsIdleAt, fresh_pass};
 ghost use Rattle.shared_cache.specs.Asking.{AllAsked, Found, FoundBusy, FoundFree, Moves};
 ghost use Rattle.shared_cache.specs.Faults.{InSlabs};
-ghost use Rattle.shared_cache.specs.HandView.{GivesRound, HasNone, HasRoom, HasRound, IsRelieved, IsSpent, LiesAside, TakesAside, TakesRound};
-ghost use Rattle.shared_cache.specs.HandView.{fresh_hand, gets_back, lends, objects, refuses};
+ghost use Rattle.shared_cache.specs.HandView.{Counted, GivesRound, HasNone, HasRoom, HasRound, IsLaden, IsRelieved, IsSpent, LiesAside, TakesAside, TakesRound};
+ghost use Rattle.shared_cache.specs.HandView.{adopts, fresh_hand, gets_back, lends, objects, passes_on, refuses};
 ghost use Rattle.shared_cache.specs.declared.count.TheConstants.{MOST, MOST_LENT};
 ghost use Rattle.shared_cache.specs.declared.fault.TakeFault.TheVariants.{Busy, Full};
 
@@ -39,11 +39,14 @@ use std::sync::Wait;
 pub struct Hand<K: Kind> {
     rack: Rack<K>,
     pub(crate) pass: PlacePass<K>,
+    // No two counts that one call changes are neighbours: the compiler would load both at once, and wait for the store to one of them.
     allocs: u64,
+    adopted: u64,
     frees: u64,
+    passed: u64,
+    busy: u64,
     lent: u64,
     nulls: u64,
-    busy: u64,
     // It keeps hands that lie one after another off one pair of lines of the processor's cache.
     apart: [u64; 16],
 }
@@ -58,7 +61,7 @@ impl<K: Kind> Model for Hand<K> {
       table = h.pass.table;
       layer = h.rack.layer;
       aside = map (λ o. o.slot) h.rack.aside.items;
-      counts = record { allocs = h.allocs; frees = h.frees; lent = h.lent; nulls = h.nulls; busy = h.busy };
+      counts = record { allocs = h.allocs; frees = h.frees; adopted = h.adopted; passed = h.passed; lent = h.lent; nulls = h.nulls; busy = h.busy };
       notes = h.pass.notes;
     } };
 
@@ -66,7 +69,7 @@ impl<K: Kind> Model for Hand<K> {
       table = h.pass.table;
       layer = h.rack.layer;
       aside = map (λ o. o.slot) h.rack.aside.items;
-      counts = record { allocs = h.allocs; frees = h.frees; lent = h.lent; nulls = h.nulls; busy = h.busy };
+      counts = record { allocs = h.allocs; frees = h.frees; adopted = h.adopted; passed = h.passed; lent = h.lent; nulls = h.nulls; busy = h.busy };
       notes = h.pass.notes;
     })
         h.pass (vec_capacity h.rack.aside) };
@@ -83,6 +86,8 @@ impl<K: Kind> Hand<K> {
             pass,
             allocs: 0,
             frees: 0,
+            adopted: 0,
+            passed: 0,
             lent: 0,
             nulls: 0,
             busy: 0,
@@ -123,6 +128,7 @@ impl<K: Kind> Hand<K> {
         ensures table { self.new.table ≡ self.old.table }
         ensures pages { Moves pages.old pages.new 0 0 }
         ensures counts { MatchResult result (λ _. self.new.counts ≡ lends self.old.counts) (λ fault. self.new.counts ≡ refuses fault self.old.counts) }
+        ensures few { OnOk result (self.new.counts.allocs ≤ 2 ^ 56) }
         ensures image { IfOk result (λ object. object.bytes.value.items ≡ replicate K.SIZE K.FILL) }
 
         // A round of this hand goes before all else, and then what lies aside: no place is asked for these.
@@ -159,6 +165,7 @@ impl<K: Kind> Hand<K> {
         ensures table { self.new.table ≡ self.old.table }
         ensures pages { Moves pages.old pages.new 0 0 }
         ensures counts { MatchResult result (λ _. self.new.counts ≡ lends self.old.counts) (λ _. self.new.counts ≡ self.old.counts) }
+        ensures few { OnOk result (self.new.counts.allocs ≤ 2 ^ 56) }
         ensures image { IfOk result (λ object. object.bytes.value.items ≡ replicate K.SIZE K.FILL) }
         ensures round { IfOk result (λ object. HasRound self.old.layer → TakesRound self.old self.new object.slot) }
         ensures aside { IfOk result (λ object. IsEmpty self.old.layer → 0 < length self.old.aside → TakesAside self.old self.new object.slot) }
@@ -241,6 +248,39 @@ impl<K: Kind> Hand<K> {
         self.lent -= 1;
     }
 
+    /// Takes over an object that another hand of this cache lent: from now on it is this hand's to give back. False if there is no room
+    /// aside for one more; then nothing changed.
+    pub fn adopt(&mut self) -> bool
+        ensures adopted { IsTrue result → Counted self.old self.new (adopts self.old.counts) }
+        ensures same { result ≡ false → self.new ≡ self.old }
+        ensures laden { (result ≡ false) ↔ IsLaden self.old }
+        ensures few { self.new.counts.adopted ≤ 2 ^ 56 }
+    {
+        if !self.can_adopt() {
+            return false;
+        }
+        self.adopted += 1;
+        self.lent += 1;
+        true
+    }
+
+    /// Whether there is room to take over an object.
+    pub fn can_adopt(&self) -> bool
+        ensures { (result ≡ false) ↔ IsLaden self.now }
+    {
+        let aside = self.rack.aside.len() as u64;
+        self.adopted < MOST && self.lent + aside < MOST_LENT
+    }
+
+    /// Leaves an object that this hand lent to whoever takes it over: it is no longer this hand's to give back.
+    pub fn pass_on(&mut self)
+        requires lent { 0 < self.old.counts.lent }
+        ensures { Counted self.old self.new (passes_on self.old.counts) }
+    {
+        self.passed += 1;
+        self.lent -= 1;
+    }
+
     /// Sends all objects that this hand has home to the slabs. False where some stay: another hand has the slabs, also after as many
     /// pauses.
     pub fn flush(&mut self, cache: &Cache<K>, pauses: u32) -> bool
@@ -258,7 +298,7 @@ impl<K: Kind> Hand<K> {
     pub(crate) fn end(self) -> (Rack<K>, PlacePass<K>, Sums)
         ensures pass { (result.1.table ≡ self.table) × (result.1.out ≡ []) × (result.1.parts ≡ 1) }
         ensures sums { result.2 ≡ record { allocs = self.counts.allocs; frees = self.counts.frees; nulls = self.counts.nulls; busy = self.counts.busy } }
-        ensures few { (result.2.allocs ≤ 2 ^ 56) × (result.2.frees ≤ result.2.allocs) × (result.2.nulls ≤ 2 ^ 56) × (result.2.busy ≤ 2 ^ 56) }
+        ensures few { (result.2.allocs ≤ 2 ^ 56) × (result.2.frees ≤ 2 ^ 57) × (result.2.nulls ≤ 2 ^ 56) × (result.2.busy ≤ 2 ^ 56) }
         ensures even { result.1.right + result.2.frees ≡ result.1.left + result.2.allocs + objects result.0.layer result.0.aside.items }
     {
         let Hand {
@@ -266,6 +306,8 @@ impl<K: Kind> Hand<K> {
             pass,
             allocs,
             frees,
+            adopted: _,
+            passed: _,
             lent: _,
             nulls,
             busy,

@@ -28,7 +28,7 @@
 //! *Lines of the processor's cache.* What two threads write is 128 bytes apart: places, and hands that lie one after another. A hand
 //! that lies beside something else that threads write is better boxed.
 //!
-//! To read the files: count, fault, place, soon, arena, depots, supply, rack, hand; reaping, sums, closing, totals, cache.
+//! To read the files: count, fault, place, parcel, soon, arena, depots, supply, rack, hand; reaping, sums, closing, totals, cache.
 #![tactic(auto)]
 
 mod arena;
@@ -38,6 +38,7 @@ mod count;
 mod depots;
 mod fault;
 mod hand;
+mod parcel;
 mod place;
 mod rack;
 mod reaping;
@@ -51,5 +52,6 @@ pub use cache::Cache;
 pub use count::{MAX_HANDS, MOST_LENT};
 pub use fault::TakeFault;
 pub use hand::Hand;
+pub use parcel::Parcel;
 pub use soon::PAUSES;
 pub use totals::Totals;

@@ -6,8 +6,8 @@ use Rattle.shared_cache.proofs.closing.gathered.Given as goal
 
 abbrev pub invariant-loop-place : goal.invariant-loop-place
 invariant-loop-place g l = record {
-  most : vec_len l.places ≤ 64;
-  missing : l.others.missing + vec_len l.places * 2 ^ 32 ≤ 64 * 2 ^ 32;
+  most : vec_len l.places ≤ 65;
+  missing : l.others.missing + vec_len l.places * 2 ^ 32 ≤ 65 * 2 ^ 32;
   few : l.foreign + l.others.foreign + sum_by (λ b. ins b.value) l.places.items ≤ sum_by (λ b. ins b.value) l.fn.places.items;
   counted : out_count l.slabs + l.others.missing + sum_by (λ b. outs b.value) l.places.items + sum_by (λ b. ins b.value) l.fn.places.items ≡
       sum_by (λ b. outs b.value) l.fn.places.items + l.foreign + l.others.foreign + sum_by (λ b. ins b.value) l.places.items;

@@ -48,5 +48,5 @@ loop-hand-preserved g c =
       nulls = omega (arith, nulls, own_nulls, sum_last (λ h. h.counts.nulls) c.loop-hand.hands.items c.pop.new.self.items hand pop.items, i.nulls);
       busy = omega (arith, busy, own_busy, sum_last (λ h. h.counts.busy) c.loop-hand.hands.items c.pop.new.self.items hand pop.items, i.busy);
       even = omega (arith, right, left, held, allocs, frees, e.even, i.even);
-      less = omega (arith, allocs, frees, e.few.1, i.less);
+      few_frees = omega (arith, fewer, frees, e.few.1, i.few_frees);
     }
