@@ -9,5 +9,6 @@ pub mod SeatLemmas
 pub mod OwningLaw
 pub mod OwningStart
 pub mod OwningEnd
+pub mod Counting
 pub mod DrawingSteps
 pub mod DrawingEnd

@@ -54,7 +54,7 @@ left-none o seats st r empty = record {
     nothing h = ap (λ (ss : List SeatView). weigh h (held_by ss)) empty
 
 -- seats that hold nothing have no entry
-all-empty : (seats : List SeatView) → All (λ s. s.held ≡ []) seats → held_by seats ≡ []
+pub all-empty : (seats : List SeatView) → All (λ s. s.held ≡ []) seats → held_by seats ≡ []
 all-empty [] none = refl
 all-empty (s ∷ ss) none = λ i. none zero s (omega arith) i ++ all-empty ss (λ k d l. none (suc k) d (omega arith)) i
 
@@ -149,16 +149,17 @@ AreRead ws k xs = (slot : ℕ) → slot < k → get_or xs slot 0 ≡ get_or ws (
 pub none-read : (ws xs : List ℕ) → AreRead ws 0 xs
 none-read ws xs slot l = absurd (omega arith)
 
+-- what a list has at a place
+pub elem-get_or : (ws : List ℕ) (k w : ℕ) → get_elem? ws k ≡ some w → get_or ws k 0 ≡ w
+elem-get_or [] k w e = absurd (some-ne-none w (sym e))
+elem-get_or (x ∷ xs) zero w e = some-injective x w e
+elem-get_or (x ∷ xs) (suc k) w e = elem-get_or xs k w e
+
 -- one more word is read
 pub next-read : (ws : List ℕ) (k w : ℕ) (xs : List ℕ) → length xs ≡ k → AreRead ws k xs → get_elem? ws (place k) ≡ some w → AreRead ws (k + 1) (xs ++ w ∷ [])
 next-read ws k w xs len read e slot l = dite (ℕ_discrete slot k)
     (λ last. ap (λ (i : ℕ). get_or (xs ++ w ∷ []) i 0) (last ∙ sym len) ∙ (get_or-append_seam xs w [] 0 ∙ (sym (elem-get_or ws (place k) w e) ∙ ap (λ (i : ℕ). get_or ws (place i) 0) (sym last))))
     (λ other. get_or-append xs (w ∷ []) 0 slot (omega (arith, len, l, other)) ∙ read slot (omega (arith, l, other)))
-  where
-    elem-get_or : (ws : List ℕ) (k w : ℕ) → get_elem? ws k ≡ some w → get_or ws k 0 ≡ w
-    elem-get_or [] k w e = absurd (some-ne-none w (sym e))
-    elem-get_or (x ∷ xs) zero w e = some-injective x w e
-    elem-get_or (x ∷ xs) (suc k) w e = elem-get_or xs k w e
 
 -- the words of all slots were read
 pub read-all : (ws : List ℕ) (k : ℕ) (xs : List ℕ) (n : ℕ) {slots : ℕ} → length xs ≡ k → AreRead ws k xs → n ≡ slots → k ≤ n → n ≤ k

@@ -1,7 +1,7 @@
 //! The table of owners.
 
 ghost use Rattle.std.specs.Prelude.{◌≡◌, ◌+◌, ◌<◌, ◌≤◌, [], ◌∷◌, ◌++◌, ℕ};
-ghost use Rattle.std.specs.Prelude.{map, replicate, reverse, slice_index, vec_len, All, IfSome, IfNone, IfOk, OnOk, IfErr, IsErrAnd};
+ghost use Rattle.std.specs.Prelude.{length, map, replicate, reverse, slice_index, vec_len, All, IfSome, IfNone, IfOk, OnOk, IfErr, IsErrAnd};
 ghost use Rattle.std.specs.Slots.{slots_items, slots_len, IsFull};
 ghost use Rattle.owners_table.specs.Marking.{mark_word};
 ghost use Rattle.owners_table.specs.Place.{words_in};
@@ -11,7 +11,7 @@ ghost use Rattle.owners_table.specs.Owning.{fresh, sheet, held_by, blank, owner_
 ghost use Rattle.owners_table.specs.declared.mark.TheConstants.{SHELVES};
 ghost use Rattle.owners_table.specs.declared.owners.TheConstants.{ARENA_SLOTS};
 
-use crate::mark::{Mark, Owner, SHELVES};
+use crate::mark::{Mark, Owner, SHELVES, WORDS_OF_A_RUN};
 use crate::owning::{Claim, Fetch, Look, OwnerSheet, Owning, Release, Shelve, Size};
 use crate::place::{place, words_in};
 use crate::sheets::Sheets;
@@ -279,6 +279,28 @@ impl Owners {
         }
         closed.free();
         Ok(words)
+    }
+
+    /// Ends the table, and counts the slots that a run still owns. It takes no memory.
+    pub fn end(self, seats: Vec<OwnerSeat>) -> u32
+        requires { All (λ s. s.table ≡ self.table) seats.items }
+        // No fewer than these seats hold.
+        ensures some { length (held_by seats.items) ≤ result }
+        // Where these are all the seats that were made, as many as they hold.
+        ensures all { vec_len seats ≡ self.seats → result ≡ length (held_by seats.items) }
+        // Where besides they hold nothing, each slot is free or a shelf's.
+        ensures none { vec_len seats ≡ self.seats → All (λ s. s.held ≡ []) seats.items → result ≡ 0 }
+    {
+        let words = words_in(self.slots);
+        let closed = self.ended(seats);
+        let mut owned = 0;
+        for at in 0..words {
+            if closed.word(at) >= WORDS_OF_A_RUN {
+                owned += 1;
+            }
+        }
+        closed.free();
+        owned
     }
 }
 
