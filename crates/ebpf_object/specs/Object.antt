@@ -1,5 +1,5 @@
 -- The kind, the slot and the bytes of an object of any kind.
-use Rattle.std.specs.Prelude.{◌≡◌, ◌<◌, ℕ, List, length}
+use Rattle.std.specs.Prelude.{◌≡◌, ◌+◌, ◌*◌, ◌<◌, ℕ, List, length}
 use Rattle.std.proofs.Common.{suc-le-suc, zero-le}
 use Rattle.ebpf_machine.specs.World.{image_at}
 use Rattle.ebpf_machine.specs.Kinds.{known_kinds}
@@ -26,3 +26,10 @@ pub has_size : (o : Object) → (length (bytes_of o) ≡ length (image_at known_
 has_size (Cell o) = (o.sized, suc-le-suc zero-le)
 has_size (Record o) = (o.sized, suc-le-suc (suc-le-suc zero-le))
 has_size (Block o) = (o.sized, suc-le-suc (suc-le-suc (suc-le-suc zero-le)))
+
+-- one number for a kind and a slot: no two objects of different kinds have it in common
+abbrev pub number_in : ℕ → ℕ → ℕ
+number_in kind slot = 3 * slot + kind
+
+abbrev pub number_of : Object → ℕ
+number_of o = number_in (kind_of o) (slot_of o)

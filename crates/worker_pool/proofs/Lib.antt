@@ -1,11 +1,8 @@
 pub mod Bundles
 pub mod Flat
 pub mod NumberingLemmas
-pub mod Holding
-pub mod Claiming
 pub mod Sums
 pub mod Answering
-pub mod Exchanging
 pub mod Passing
 pub mod Pairs
 pub mod Returning

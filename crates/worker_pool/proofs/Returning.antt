@@ -7,8 +7,9 @@ use Rattle.object_cache.specs.HandView.{HandView}
 use Rattle.object_cache.specs.ShelfView.{ShelfHandView, new_hand, one_if}
 use Rattle.slab_layer.specs.Kinds.{Row, IsRow}
 use Rattle.owners_table.specs.Owning.{OwnersView, SeatView}
-use Rattle.worker_pool.specs.Claims.{lost}
-use Rattle.worker_pool.specs.Supplies.{HasReturned, HasFetched}
+use Rattle.ebpf_owned.specs.Claims.{lost, HasFetched}
+use Rattle.ebpf_owned.proofs.Claiming.{fetched_on}
+use Rattle.worker_pool.specs.Supplies.{HasReturned}
 use Rattle.worker_pool.specs.Outcomes.{IsIdle, noted_by, lost_by, fetches_by}
 
 -- a kind's number is that of a shelf
@@ -63,12 +64,7 @@ module _ (left : ℕ) (hands : List HandView) (h h' : HandView) (some : 0 < leng
 
 -- three fetches one after another
 pub all_fetched : (a b c : ℕ) (s t u v : SeatView) → HasFetched a s t → HasFetched b t u → HasFetched c u v → HasFetched (a + b + c) s v
-all_fetched a b c s t u v x y z = record {
-  table = z.table ∙ y.table ∙ x.table;
-  held = z.held ∙ y.held ∙ x.held;
-  notes = z.notes ∙ y.notes ∙ x.notes;
-  fetches = omega (arith, x.fetches, y.fetches, z.fetches);
-}
+all_fetched a b c s t u v x y z = fetched_on (a + b) c s u v (fetched_on a b s t u x y) z
 
 pub idle_after : (o : OwnersView) (count : ℕ) (s s' : SeatView) → HasFetched count s s' → IsIdle o s → IsIdle o s'
 idle_after o count s s' f i = record { table = f.table ∙ i.table; held = f.held ∙ i.held }

@@ -14,7 +14,7 @@ use Rattle.worker_pool.specs.declared.hands.Tools.{Tools}
 use Rattle.worker_pool.specs.declared.crew.Parts.{Parts}
 use Rattle.worker_pool.specs.declared.crew.Done.{Done}
 use Rattle.worker_pool.specs.Bundles.{AreAsDrawn}
-use Rattle.worker_pool.specs.Claims.{lost}
+use Rattle.ebpf_owned.specs.Claims.{lost}
 use Rattle.worker_pool.specs.Crews.{AreDismissed, IsBack, tools_or, tools_in, hands_in, seat_in, clashes_in, strays_in}
 use Rattle.worker_pool.specs.Outcomes.{IsIdle}
 use Rattle.worker_pool.specs.Places.{bundles_of}

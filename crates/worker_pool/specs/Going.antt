@@ -12,7 +12,7 @@ use Rattle.job_list.specs.declared.jobs.Job.{Job}
 use Rattle.worker_pool.specs.Numbering.{Numbered, numbered}
 use Rattle.worker_pool.specs.declared.client.Client.{Client}
 use Rattle.worker_pool.specs.declared.each_kind.Stocks.{Stocks}
-use Rattle.worker_pool.specs.Claims.{lost}
+use Rattle.ebpf_owned.specs.Claims.{lost}
 use Rattle.worker_pool.specs.Counts.{grants_of, nulls_of, gets_of}
 use Rattle.worker_pool.specs.Working.{Answers, granted_by, refused_by, fetched_by}
 

@@ -1,7 +1,6 @@
 pub mod Admission
 pub mod Bundles
 pub mod Books
-pub mod Claims
 pub mod Counts
 pub mod Crews
 pub mod Going

@@ -5,7 +5,7 @@ use Rattle.ebpf_machine.specs.declared.report.Report.{Report}
 use Rattle.ebpf_machine.specs.Whole.{IsReportOf, granted, refused, fetched}
 use Rattle.object_cache.specs.declared.totals.Totals.{Totals}
 use Rattle.owners_table.specs.Owning.{OwnersView, SeatView}
-use Rattle.worker_pool.specs.Claims.{lost}
+use Rattle.ebpf_owned.specs.Claims.{lost}
 use Rattle.worker_pool.specs.declared.admission.PoolFault.{PoolFault}
 use Rattle.worker_pool.specs.declared.admission.PoolFault.TheVariants.{NoMemory}
 use Rattle.job_list.specs.declared.jobs.Job.{Job}

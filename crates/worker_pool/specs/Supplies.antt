@@ -1,8 +1,7 @@
 -- A supply as it is opened and as it is closed.
-use Rattle.std.specs.Prelude.{◌≡◌, ◌+◌, ◌≤◌, ℕ, length, sum_by, vec_len}
+use Rattle.std.specs.Prelude.{◌≡◌, ◌+◌, ◌≤◌, ℕ, sum_by, vec_len}
 use Rattle.object_cache.specs.HandView.{HandView}
 use Rattle.object_cache.specs.declared.totals.Totals.{Totals}
-use Rattle.owners_table.specs.Owning.{SeatView}
 use Rattle.worker_pool.specs.declared.hands.FreePairs.{FreePairs}
 use Rattle.worker_pool.specs.declared.outcome.ShelfTotals.{ShelfTotals}
 use Rattle.worker_pool.specs.declared.supply.Supply.{Supply}
@@ -38,10 +37,3 @@ pub record HasReturned (left : ℕ) (h h' : HandView) : Type 0 where
   pub allocs : h'.allocs ≡ h.allocs
   pub frees : h'.frees ≡ h.frees + left
   pub nulls : h'.nulls ≡ h.nulls
-
--- the seat noted that many fetches more, and holds nothing as before
-pub record HasFetched (count : ℕ) (s s' : SeatView) : Type 0 where
-  pub table : s'.table ≡ s.table
-  pub held : s'.held ≡ s.held
-  pub notes : s'.notes ≡ s.notes
-  pub fetches : length s'.fetches ≡ length s.fetches + count

@@ -15,7 +15,7 @@ use Rattle.worker_pool.specs.Numbering.{IsBlank, IsWhole, Numbered, bundles_in, 
 use Rattle.worker_pool.specs.declared.worker.Worker.{Worker}
 use Rattle.worker_pool.specs.declared.hands.Tools.{Tools}
 use Rattle.ebpf_machine.specs.Whole.{IsReportOf, granted, refused, fetched}
-use Rattle.worker_pool.specs.Claims.{lost}
+use Rattle.ebpf_owned.specs.Claims.{lost}
 use Rattle.worker_pool.specs.Bundles.{AreAsDrawn}
 
 -- the job's program is there, and the context has its length

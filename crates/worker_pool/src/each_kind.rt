@@ -1,7 +1,7 @@
 //! What there is of each kind.
 //!
 //! The other files speak of one kind, whatever it is: its hands, its supply, its stock. Here the kinds stand side by side, and nowhere else.
-//! Objects go in and out of stocks bare: the caller claims their slots and gives them up (`owned`).
+//! Objects go in and out of stocks bare: the caller claims their slots and gives them up (ebpf_owned).
 
 ghost use Rattle.std.specs.Prelude.{◌≡◌, ◌≤◌, ◌<◌, All, length, vec_len, IfOk, IfSome, IfNone};
 ghost use Rattle.ebpf_machine.specs.Kinds.{known_kinds};

@@ -4,7 +4,7 @@
 //! one at the shelf of each kind, and a seat at the table of owners. An object that a hand takes is a run's only once the seat
 //! has claimed its slot for the job. Where the table has another owner for it, the object goes back, the call is answered null,
 //! and the clash is counted. An object that a run frees is released before the hand has it back, so that nobody who takes it
-//! next finds its slot owned. The types see to this order (`owned`): no hand and no shelf takes an object of a run.
+//! next finds its slot owned. The types see to this order (ebpf_owned): no hand and no shelf takes an object of a run.
 //!
 //! A shelf has room for one object, which a run of one worker leaves and a run of another takes. In the table its slot is the
 //! shelf's before it is there, and the run's that took it after that. Where it is neither, it is a stray: it goes back to the
@@ -19,7 +19,7 @@
 //! ebpf_machine, so all that is proved of a run over any store holds over this one; each bundle is drawn once, and each
 //! job is in one bundle.
 //!
-//! To be read in this order: `ledgers`, `hands`, `supply`, `count`, `client`, `owned`, `stock`, `each_kind`, `store`,
+//! To be read in this order: `ledgers`, `hands`, `supply`, `count`, `client`, `stock`, `each_kind`, `store`,
 //! `answered`, `gate`, `worker`, `beside`, `crew`, `outcome`, `admission`, `setup`, `place`, `pool`, `plain_jobs`.
 #![tactic(auto)]
 
@@ -34,7 +34,6 @@ mod gate;
 mod hands;
 mod ledgers;
 mod outcome;
-mod owned;
 mod place;
 mod plain_jobs;
 mod pool;

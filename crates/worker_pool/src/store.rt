@@ -5,9 +5,10 @@ ghost use Rattle.ebpf_machine.specs.Store.{one_of};
 ghost use Rattle.object_cache.specs.ShelfView.{one_if};
 ghost use Rattle.owners_table.specs.Marking.{mark_word};
 ghost use Rattle.owners_table.specs.Owning.{Holds};
-ghost use Rattle.owners_table.specs.declared.mark.TheConstants.{SHELVES, WORDS_OF_A_RUN};
+ghost use Rattle.owners_table.specs.declared.mark.TheConstants.{WORDS_OF_A_RUN};
 ghost use Rattle.worker_pool.specs.EachKind.{unused_hands, all_allocs, all_gets, outs_of, hands_of};
-ghost use Rattle.worker_pool.specs.Claims.{HasSwapped, IsStray, IsSwappable, less};
+ghost use Rattle.ebpf_owned.specs.Claims.{IsStray};
+ghost use Rattle.ebpf_owned.specs.Exchanges.{HasSwapped, IsSwappable};
 ghost use Rattle.worker_pool.specs.Counts.{all_come, all_gone};
 ghost use Rattle.worker_pool.specs.Going.{HasAnswered, GoesBy, answered_on, none_answered, tools_of};
 ghost use Rattle.ebpf_object.specs.Object.{kind_of, slot_of};
@@ -16,9 +17,8 @@ use crate::client::Client;
 use crate::each_kind::Stocks;
 use crate::hands::Tools;
 use crate::ledgers::Names;
-use crate::owned::Owned;
 use ebpf_machine::objects::Objects;
-use ebpf_object::Object;
+use ebpf_owned::{Owned, slot_in};
 use std::sync::Wait;
 
 /// A worker's client and its stocks.
@@ -67,7 +67,8 @@ impl<'a, L: Names, R: Wait> Store<'a, L, R> {
 impl<'a, L: Names, R: Wait> Objects for Store<'a, L, R> {
     ghost use Rattle.std.specs.Prelude.{◌≡◌, ◌<◌, ◌+◌, ◌⊎◌, ℕ, option_map, IfSome, IfNone};
     ghost use Rattle.owners_table.specs.Marking.{mark_word};
-    ghost use Rattle.worker_pool.specs.Claims.{HasSwapped, IsStray, IsSwappable};
+    ghost use Rattle.ebpf_owned.specs.Claims.{IsStray};
+    ghost use Rattle.ebpf_owned.specs.Exchanges.{HasSwapped, IsSwappable};
     ghost use Rattle.worker_pool.specs.EachKind.{hands_of, outs_of};
     ghost use Rattle.ebpf_machine.specs.Kinds.{known_kinds};
     ghost use Rattle.ebpf_machine.specs.Store.{one_of};
@@ -105,7 +106,7 @@ impl<'a, L: Names, R: Wait> Objects for Store<'a, L, R> {
         let Some(object) = self.stocks.take(self.client.rt, self.client.arena, kind) else {
             return None;
         };
-        match Owned::claim(object, &mut self.client, at) {
+        match self.client.claim(object, at) {
             Ok(owned) => Some(owned),
             Err(object) => {
                 self.stocks.give(self.client.rt, object);
@@ -116,7 +117,7 @@ impl<'a, L: Names, R: Wait> Objects for Store<'a, L, R> {
 
     #[inline(always)]
     fn give(&mut self, _kind: u8, object: Owned) {
-        let bare = object.release(&mut self.client);
+        let bare = self.client.release(object);
         self.stocks.give(self.client.rt, bare);
     }
 
@@ -138,11 +139,11 @@ impl<'a, L: Names, R: Wait> Objects for Store<'a, L, R> {
             outs_of (hands_of self.old.stocks) k + one_of result shelf k }
     {
         let left = slot_in(&given);
-        let given = shelved(given, &mut self.client, shelf);
+        let given = self.client.shelved(given, shelf);
         let Some(object) = self.stocks.swap(self.client.rt, shelf, given) else {
             return None;
         };
-        match Owned::fetch(object, &mut self.client, shelf, left, at) {
+        match self.client.fetch(object, shelf, left, at) {
             Ok(owned) => Some(owned),
             Err(stray) => {
                 self.stocks.give(self.client.rt, stray);
@@ -160,30 +161,4 @@ impl<'a, L: Names, R: Wait> Objects for Store<'a, L, R> {
     }
 
     ghost has_size = { λ s o out. has_size o };
-}
-
-// The slot of an object, if there is one.
-fn slot_in(owned: &Option<Owned>) -> Option<u32>
-    ensures { result ≡ option_map slot_of owned.now }
-{
-    match owned {
-        Some(owned) => Some(owned.slot()),
-        None => None,
-    }
-}
-
-// Gives the slot of an object to the shelf of this number, if there is one.
-fn shelved<R: Wait>(given: Option<Owned>, client: &mut Client<'_, R>, shelf: u8) -> Option<Object>
-    requires given { IsSwappable given shelf client.old.seat.held }
-    requires shelf { shelf < SHELVES }
-    ensures same { result ≡ given }
-    ensures held { client.new.seat.held ≡ less (option_map slot_of given) client.old.seat.held }
-    ensures notes { (client.new.seat.notes ≡ client.old.seat.notes) × (client.new.seat.fetches ≡ client.old.seat.fetches) }
-    ensures table { client.new.seat.table ≡ client.old.seat.table }
-    ensures rest { (client.new.clashes ≡ client.old.clashes) × (client.new.strays ≡ client.old.strays) × (client.new.job ≡ client.old.job) }
-{
-    match given {
-        Some(owned) => Some(owned.shelve(client, shelf)),
-        None => None,
-    }
 }

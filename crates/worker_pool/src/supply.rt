@@ -3,20 +3,20 @@
 //! *The idea.* A supply is opened with as many hands as there are workers, and closed over them. What its shelf holds then goes back
 //! to its cache first, by one of these hands and by one of the workers' seats.
 
-ghost use Rattle.std.specs.Prelude.{◌≡◌, ◌≤◌, ◌<◌, All, vec_len, IfOk, OnOk};
+ghost use Rattle.std.specs.Prelude.{◌≡◌, ◌≤◌, All, vec_len, IfOk, OnOk};
+ghost use Rattle.ebpf_owned.specs.Claims.{HasFetched};
 ghost use Rattle.object_cache.specs.ShelfView.{new_hand, one_if};
-ghost use Rattle.owners_table.specs.declared.mark.TheConstants.{SHELVES};
 ghost use Rattle.owners_table.specs.declared.owners.TheConstants.{ARENA_SLOTS};
 ghost use Rattle.worker_pool.specs.Books.{AreWhole, AreFor};
 ghost use Rattle.worker_pool.specs.Hands.{AreUnused, HasHand, IsNone};
 ghost use Rattle.worker_pool.specs.Outcomes.{IsIdle};
-ghost use Rattle.worker_pool.specs.Supplies.{IsOpened, HasMade, IsClosed, HasReturned, HasFetched};
+ghost use Rattle.worker_pool.specs.Supplies.{IsOpened, HasMade, IsClosed, HasReturned};
 
 use crate::hands::{FreePairs, HandPair};
 use crate::ledgers::{Gets, Ins, Names, Outs, Puts};
 use crate::outcome::ShelfTotals;
+use ebpf_owned::unshelve;
 use object_cache::{ArenaLock, Cache, Hand, Left, Shelf, Totals};
-use owners_table::mark::Mark;
 use owners_table::owners::{OwnerSeat, Owners};
 use slab_layer::{Held, Kind, Obj};
 use std::alloc::{AllocError, Global};
@@ -197,25 +197,8 @@ impl<'a, R: Wait> Closing<'a, R> {
         let Some(object) = object else {
             return 0;
         };
-        self.free(K::NUMBER, object.slot(), seat);
+        unshelve(self.owners, seat, K::NUMBER, object.slot());
         hand.give(self.rt, cache, object);
         1
-    }
-
-    // Frees the slot, where it is this shelf's.
-    fn free(&self, shelf: u8, slot: u32, seat: &mut OwnerSeat)
-        requires shelf { shelf < SHELVES }
-        requires slot { slot < ARENA_SLOTS }
-        requires idle { IsIdle self.now.owners.now seat.old }
-        ensures { HasFetched 1 seat.old seat.new }
-    {
-        // No job has this number.
-        let mark = Mark {
-            run: u32::MAX,
-            at: 0,
-        };
-        if let Ok(()) = self.owners.fetch(seat, slot, shelf, mark) {
-            self.owners.release(seat, slot);
-        }
     }
 }

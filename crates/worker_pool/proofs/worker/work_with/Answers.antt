@@ -2,7 +2,7 @@ use Rattle.std.proofs.Common.{length, ap, ◌∙◌, arith}
 use Rattle.std.proofs.lemmas.List.{nil_from_length}
 use Rattle.owners_table.specs.Owning.{SeatView}
 use Rattle.worker_pool.specs.EachKind.{all_allocs, all_nulls, all_gets}
-use Rattle.worker_pool.specs.Claims.{lost}
+use Rattle.ebpf_owned.specs.Claims.{lost}
 use Rattle.worker_pool.proofs.EachKind.{balance}
 use Rattle.worker_pool.proofs.worker.work_with.Goals as goal
 

@@ -2,7 +2,8 @@
 use Rattle.std.proofs.Common.{◌≡◌, refl}
 use Rattle.owners_table.specs.Owning.{Holds}
 use Rattle.ebpf_object.specs.Object.{kind_of, slot_of}
-use Rattle.worker_pool.proofs.Passing.{slots, whatever, even_none, swapped_goes, is_held, is_apart, is_gone, is_still_held, first_of}
+use Rattle.ebpf_owned.proofs.Passing.{slots, whatever, even_none, is_held, is_apart, is_gone, is_still_held, first_of}
+use Rattle.worker_pool.proofs.Passing.{swapped_goes}
 use Rattle.worker_pool.proofs.store.StoreObjects.TheImpl.Goals as goal
 
 pub swap-tells : goal.swap-tells

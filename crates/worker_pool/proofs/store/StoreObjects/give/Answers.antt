@@ -1,7 +1,7 @@
 use Rattle.std.proofs.Common.{length, refl, ap, arith}
 use Rattle.ebpf_object.specs.Object.{slot_of}
-use Rattle.worker_pool.specs.Claims.{lost}
-use Rattle.worker_pool.proofs.Holding.{held_before, held_after, length-without}
+use Rattle.ebpf_owned.specs.Claims.{lost}
+use Rattle.ebpf_owned.proofs.Holding.{held_before, held_after, length-without}
 use Rattle.worker_pool.proofs.store.StoreObjects.give.Goals as goal
 
 pub invariant_of-self : goal.invariant_of-self

@@ -3,9 +3,11 @@ use Rattle.object_cache.specs.ShelfView.{one_if}
 use Rattle.owners_table.specs.Marking.{mark_word}
 use Rattle.owners_table.specs.Owning.{Holds}
 use Rattle.ebpf_object.specs.Object.{kind_of, slot_of}
-use Rattle.worker_pool.specs.Claims.{less, lost}
-use Rattle.worker_pool.proofs.Exchanging.{passed_some}
-use Rattle.worker_pool.proofs.Passing.{first_of, length_less}
+use Rattle.ebpf_owned.specs.Claims.{lost}
+use Rattle.ebpf_owned.specs.Exchanges.{less}
+use Rattle.ebpf_owned.proofs.Exchanging.{passed_some}
+use Rattle.ebpf_owned.proofs.Passing.{first_of}
+use Rattle.worker_pool.proofs.Passing.{length_less}
 use Rattle.worker_pool.proofs.store.StoreObjects.swap.Goals as goal
 
 pub invariant_of-self : goal.invariant_of-self
@@ -57,7 +59,7 @@ returns-in-Ok-clause-seat g c =
     let s = c.shelved-given.ensures in
     let f = c.in-Ok.ensures in
     passed_some slot_of c.args.given c.slot_in-left.result held left (first_of c.args.given (λ o. Holds (slot_of o) held) (λ o. kind_of o ≡ c.args.shelf) c.requires.given)
-    (slot_of c.in-Ok.owned) (slot_of c.in-Some.object) (mark_word c.args.self.now.client.job c.args.at) (mark_word c.shelved-given.new.client.job c.args.at) c.shelved-given.new.client.seat.held c.fetch.new.client.seat.held
+    (slot_of c.in-Ok.owned) (slot_of c.in-Some.object) (mark_word c.args.self.now.client.job c.args.at) (mark_word c.shelved-given.new.self.job c.args.at) c.shelved-given.new.self.seat.held c.fetch.new.self.seat.held
     (s.held ∙ ap (λ l. less l held) (sym left)) (ap slot_of (sym c.in-Ok.ensures.object)) (ap (λ (j : ℕ). mark_word j c.args.at) s.rest.2) f.fetched.0 f.fetched.1 f.apart
 
 pub returns-in-Err-clause-due : goal.returns-in-Err-clause-due

@@ -1,0 +1,4 @@
+pub mod Holding
+pub mod Claiming
+pub mod Exchanging
+pub mod Passing
