@@ -1,0 +1,4 @@
+pub mod ByKind
+pub mod Keeping
+pub mod Parting
+pub mod Together
