@@ -8,3 +8,4 @@ pub mod Loading
 pub mod Unrolled
 pub mod Whole
 pub mod Shelving
+pub mod Workers

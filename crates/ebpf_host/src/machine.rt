@@ -9,6 +9,7 @@ ghost use Rattle.ebpf_host.specs.Reports.{IsReportWithin};
 ghost use Rattle.ebpf_host.specs.Stocks.{stock_of};
 ghost use Rattle.ebpf_host.specs.Whole.{whole};
 
+use crate::memory::Memory;
 use crate::program::Program;
 use crate::stock::Counts;
 use crate::stocks::{Stocks, WORDS_APART};
@@ -16,23 +17,21 @@ use crate::within::run_within;
 use ebpf_machine::ended::Ended;
 use ebpf_machine::report::Report;
 use ebpf_machine::run::StartFault;
-use ebpf_machine::workspace::Workspace;
 use ebpf_object::Object;
 use ebpf_state::kinds::KINDS;
-use std::alloc::{AllocError, Global};
+use std::alloc::Global;
 use std::marker::Model;
-use std::mem;
 use vmem_arena::{Arena, ArenaFault};
 
 /// The memory of runs and the objects that they take, give back and leave on shelves. It serves one run at a time, of whatever
 /// program; what a run leaves on a shelf is there for the next. All of it ends with the machine.
 pub struct Machine {
-    alloc: Global,
     // It and `after` keep what other threads use off the lines of the processor's cache on which runs write here.
     before: [u64; WORDS_APART],
-    pub(crate) stocks: Box<Stocks>,
-    // None before the first run, and after one that found no memory.
-    workspace: Option<Workspace<Object>>,
+    /// The objects, as the store of runs by [`run_within`].
+    pub stocks: Box<Stocks>,
+    /// The memory of runs.
+    pub memory: Memory,
     after: [u64; WORDS_APART],
 }
 
@@ -58,10 +57,9 @@ impl Machine {
         let arena = Arena::new(alloc, pages)?;
         match Box::new(alloc, Stocks::new(alloc, arena)) {
             Ok(stocks) => Ok(Machine {
-                alloc,
                 before: [0; WORDS_APART],
                 stocks,
-                workspace: None,
+                memory: Memory::new(alloc),
                 after: [0; WORDS_APART],
             }),
             Err(failed) => {
@@ -98,7 +96,7 @@ impl Machine {
     {
         let ended = self.run_in_place(program, context, limit)?;
         let (report, workspace) = ended.report();
-        self.put_workspace(workspace);
+        self.memory.put(workspace);
         Ok(report)
     }
 
@@ -124,7 +122,7 @@ impl Machine {
         if context.len() != program.context() as usize {
             return Err(StartFault::ContextLength);
         }
-        let workspace = self.take_workspace()?;
+        let workspace = self.memory.take()?;
         let stocks = &mut *self.stocks;
         let ended = run_within(workspace, program, context, stocks, limit)?;
         Ok(ended)
@@ -134,26 +132,7 @@ impl Machine {
     pub fn keep(&mut self, ended: Ended<Object>)
         ensures { self.new ≡ self.old }
     {
-        self.put_workspace(ended.forget());
-    }
-
-    // The memory that the last run left, or new memory.
-    fn take_workspace(&mut self) -> Result<Workspace<Object>, AllocError>
-        ensures { self.new ≡ self.old }
-    {
-        match mem::replace(&mut self.workspace, None) {
-            Some(workspace) => Ok(workspace),
-            None => Workspace::apart(self.alloc),
-        }
-    }
-
-    // Keeps the memory of a run for the next.
-    fn put_workspace(&mut self, workspace: Workspace<Object>)
-        ensures { self.new ≡ self.old }
-    {
-        if let Some(other) = mem::replace(&mut self.workspace, Some(workspace)) {
-            other.free();
-        }
+        self.memory.put(ended.forget());
     }
 
     /// What runs did to the objects of each kind so far, in the order of the kinds' numbers.
@@ -180,15 +159,12 @@ impl Machine {
 impl Drop for Machine {
     fn drop(self) {
         let Machine {
-            alloc: _,
             before: _,
             stocks,
-            workspace,
+            memory,
             after: _,
         } = self;
         Box::into_inner(stocks).end();
-        if let Some(workspace) = workspace {
-            workspace.free();
-        }
+        memory.free();
     }
 }

@@ -59,7 +59,7 @@ impl Machine {
 }
 
 // How many bytes an object of a kind has.
-fn size_of(kind: KindName) -> usize
+pub(crate) fn size_of(kind: KindName) -> usize
     ensures { result ≡ length (image_of kind) }
 {
     match kind {

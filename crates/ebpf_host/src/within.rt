@@ -21,7 +21,8 @@ use ebpf_machine::workspace::Workspace;
 ///
 /// # Errors
 /// `ContextLength` where the context doesn't have the declared length; `NoMemory` where an allocation failed. The memory is freed then.
-pub(crate) fn run_within<O: Objects>(
+#[inline(always)]
+pub fn run_within<O: Objects>(
     workspace: Workspace<O::Held>,
     program: &Program,
     context: &[u8],
@@ -34,6 +35,8 @@ pub(crate) fn run_within<O: Objects>(
     ensures report { IfOk result (IsReportWithin program.now.verified (whole program.now context.now) limit) }
     // The store went by the report's answers.
     ensures goes { IfOk result (λ r. O.store.goes objects.old r.answers objects.new) }
+    // Of each kind as many are out as before.
+    ensures outs { (k : ℕ) → O.store.outs objects.new k ≡ O.store.outs objects.old k }
     ensures found { IfOk result (λ r. IsFound O.store objects.old program.now.verified (whole program.now context.now) r) }
     ensures shelves { IfOk result (λ r. IsLeft O.store objects.old objects.new program.now.verified (whole program.now context.now) r) }
     ensures length { OnOk result (length (whole program.now context.now) ≡ program.now.verified.decl.context) }

@@ -3,7 +3,7 @@ use Rattle.ebpf_machine.specs.Alone.{replies_from}
 use Rattle.ebpf_machine.specs.RunState.{RunState}
 use Rattle.ebpf_machine.proofs.WholeRuns.Starts.{starts}
 use Rattle.ebpf_machine.proofs.WholeRuns.Told.{IsUnderWay, under_way}
-use Rattle.ebpf_machine.proofs.WholeRuns.Ends.{goes_last}
+use Rattle.ebpf_machine.proofs.WholeRuns.Ends.{goes_last, outs_last}
 use Rattle.ebpf_host.specs.Whole.{whole}
 use Rattle.ebpf_host.proofs.CutOff.{within}
 use Rattle.ebpf_host.proofs.Finding.{finds}
@@ -30,6 +30,9 @@ ran g c =
 
 pub returns-clause-goes : goal.returns-clause-goes
 returns-clause-goes g c = goes_last g.O.Objects.store _ _ _ c.run.new.self _ (ran g c).told c.end_in_place.ensures.goes c.end_in_place.ensures.answers
+
+pub returns-clause-outs : goal.returns-clause-outs
+returns-clause-outs g c = λ k. outs_last g.O.Objects.store _ _ _ c.run.new.self k ((ran g c).outs k) (c.end_in_place.ensures.outs k)
 
 pub returns-clause-report : goal.returns-clause-report
 returns-clause-report g c =
