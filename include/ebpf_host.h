@@ -2,21 +2,26 @@
  *
  * A program that is loaded never traps: on any context, it reads and writes nothing outside its own frame, its context and its
  * objects, does at most as many instructions as it has, holds at most as many objects as it declared, and gives each of them back or
- * leaves it on a shelf of the machine.
+ * leaves it on a shelf.
+ *
+ * Programs run on a machine, which has caches and shelves of its own, or by workers, each on a thread of the host, which share caches and
+ * shelves: what one leaves on a shelf, another may find there.
  *
  * Handles. A handle is a struct of one word. Set it to zero before its first call ("ebpf_program p = {0};"), pass it by address, never
  * copy it, and free it at the end. An empty handle may be passed to every function: the call returns EBPF_EMPTY, and freeing it does
  * nothing. A call that fails leaves a handle as it was, and writes nothing else: what a report, an output, a text or a refusal points to
- * is as it was before, but for a refusal and its text where the call returns EBPF_REFUSED.
+ * is as it was before, but for a refusal and its text where the call returns EBPF_REFUSED, and for the runs of a batch before one that
+ * finds no memory.
  *
  * Pointers. A pointer with a length has to point to that many items, which nothing else touches during the call; with length 0 it may be
  * null. No two of the pointers of one call may overlap, but for two that are only read.
  *
  * Threads. Nothing here starts a thread, takes a lock or keeps a global. A handle is used by one thread at a time, which may differ from
  * call to call where something orders the calls (a lock, a join). But a handle of a program that a function takes by const may be in any
- * number of such calls at once, on any threads: threads that run at the same time have a machine each, and share one program's handle, or
- * have by ebpf_program_share a handle each. ebpf_machine_run writes the word of no handle, so the handles of several threads may lie side
- * by side, as in an array: only loads, shares into a handle, ebpf_machine_new and frees write a word.
+ * number of such calls at once, on any threads: threads that run at the same time have a machine or a worker each, and share one program's
+ * handle, or have by ebpf_program_share a handle each. A run and a batch write the word of no handle, nor do put, take and reap, so the
+ * handles of several threads may lie side by side, as in an array: only loads, shares into a handle, a new machine, what is new for
+ * workers, a worker that is opened or closed, ebpf_shared_close and frees write a word.
  *
  * Memory comes from malloc, realloc and free. Where there is none, the call answers EBPF_NO_MEMORY. Not to be called from a signal
  * handler, nor between fork and exec in a process with threads. */
@@ -43,16 +48,18 @@ enum {
     EBPF_DONE = 0,        /* it did what it says */
     EBPF_REFUSED = 1,     /* the bytes are or have no program that can be run: see ebpf_refusal */
     EBPF_DECLARATION = 2, /* more than 4,096 bytes of context, or more than 64 objects, are declared */
-    EBPF_PAGES = 3,       /* a machine has 1 to 256 pages */
-    EBPF_CONTEXT = 4,     /* the context doesn't have the length for which the program was loaded */
+    EBPF_PAGES = 3,       /* a machine has 1 to 256 pages, and so has what workers share */
+    EBPF_CONTEXT = 4,     /* the context, or that of a batch, doesn't have the length for which the program was loaded */
     EBPF_EMPTY = 5,       /* a handle holds nothing */
     EBPF_NO_MEMORY = 6,   /* an allocation failed */
     EBPF_KIND = 7,        /* no kind of object has the number */
     EBPF_LENGTH = 8,      /* an object of the kind has fewer bytes */
-    EBPF_NO_OBJECT = 9    /* there is no page, or no memory, for one more object */
+    EBPF_NO_OBJECT = 9,   /* there is no page, or no memory, for one more object */
+    EBPF_WORKERS = 10,    /* 1 to 64 workers share caches and shelves */
+    EBPF_BUSY = 11        /* as many workers are open as there may be; to close what they share, none may be */
 };
 
-/* The kinds of object, each with a shelf on a machine, by the numbers that programs pass to new and to swap. */
+/* The kinds of object, each with a shelf on a machine or among workers, by the numbers that programs pass to new and to swap. */
 enum {
     EBPF_CELL = 0,   /* 16 bytes, first all 0 */
     EBPF_RECORD = 1, /* 64 bytes, first all 0xff */
@@ -72,6 +79,8 @@ static inline const char *ebpf_status_text(ebpf_status status) {
     case EBPF_KIND: return "no such kind of object";
     case EBPF_LENGTH: return "more bytes than an object of the kind has";
     case EBPF_NO_OBJECT: return "no page or memory for an object";
+    case EBPF_WORKERS: return "number of workers out of range";
+    case EBPF_BUSY: return "workers are open";
     default: return "unknown status";
     }
 }
@@ -81,6 +90,12 @@ typedef struct ebpf_program { void *word; } ebpf_program;
 
 /* The memory of runs, and the objects that they take, give back and leave on shelves: one run at a time, of any program. */
 typedef struct ebpf_machine { void *word; } ebpf_machine;
+
+/* What workers share: a cache of objects of each kind, a shelf of each kind, and the pages on which the objects are. */
+typedef struct ebpf_shared { void *word; } ebpf_shared;
+
+/* A worker: the memory of its runs, and its way to what is shared. It does one run at a time, of any program. */
+typedef struct ebpf_worker { void *word; } ebpf_worker;
 
 /* Why bytes are refused. */
 typedef struct ebpf_refusal {
@@ -101,6 +116,26 @@ typedef struct ebpf_report {
     uint64_t missed;   /* how many found nothing there */
     bool exited;       /* whether it exited within the limit */
 } ebpf_report;
+
+/* What all workers did to the objects of one kind: frees = allocs, missing + frees = allocs + foreign, and puts = gets + left. */
+typedef struct ebpf_kind_totals {
+    uint64_t allocs;  /* how often a worker was given an object */
+    uint64_t frees;   /* how often one came back, counting the one that was on the shelf at the end */
+    uint64_t nulls;   /* how often one was refused for want of a page or of memory */
+    uint64_t busy;    /* how often one was refused because another worker was at the slabs or the pages for too long */
+    uint64_t missing; /* how many objects had not come back when all was closed */
+    uint64_t foreign; /* how many came back that had not been given */
+    uint64_t puts;    /* how often an object was put on the shelf */
+    uint64_t gets;    /* how often one was got from it */
+    uint64_t left;    /* how many were on it at the end: none or one */
+} ebpf_kind_totals;
+
+/* The totals of what workers shared, when it was closed. */
+typedef struct ebpf_totals {
+    ebpf_kind_totals kinds[3]; /* by the numbers of the kinds */
+    uint64_t clashes;          /* how many objects went back since another run owned them */
+    uint64_t strays;           /* how many objects off a shelf went back since another run owned them */
+} ebpf_totals;
 
 /* Loads a program: its raw instruction slots, eight bytes each, as its text section has them. It is to be run on contexts of `context`
  * bytes, 0 to 4096, and may hold at most `held` objects at one time, 0 to 64. What the handle held before is freed.
@@ -174,6 +209,19 @@ ebpf_status ebpf_machine_reap(ebpf_machine *machine);
 ebpf_status ebpf_machine_run(ebpf_machine *machine, const ebpf_program *program, const uint8_t *context, size_t context_length,
                              uint64_t limit, uint64_t *output, size_t output_length, ebpf_report *report);
 
+/* Runs a program on `count` contexts, one after another in this order, and writes the report of each: as many calls of ebpf_machine_run would,
+ * but each run costs less. `contexts` has the contexts one after another, each of the length for which the program was loaded, so
+ * contexts_length is count times that length; `reports` has room for count reports. Each run finds on the shelves what the one before it left
+ * there. The numbers of output are not written: report.outputs says how many a run added. A limit is for each run by itself, and its CAUTION
+ * is that of ebpf_machine_run.
+ *
+ * *done is how many were run: count with EBPF_DONE, and fewer with EBPF_NO_MEMORY, where the next run found no memory. The reports after those
+ * are as they were, and so is the machine after the last of these runs: a call with the rest goes on from there.
+ *
+ * EBPF_CONTEXT (contexts_length is another), EBPF_EMPTY: nothing was run, and the reports and *done are as they were. */
+ebpf_status ebpf_machine_run_batch(ebpf_machine *machine, const ebpf_program *program, const uint8_t *contexts, size_t contexts_length,
+                                   uint64_t limit, ebpf_report *reports, size_t count, size_t *done);
+
 /* Leaves an object of a kind on its shelf, as a program's swap does: the next program that exchanges something there gets it. It begins with
  * `length` bytes of `bytes`, and has the rest as a new object of the kind has it. *replaced says whether it is there in place of another,
  * which is given back.
@@ -186,6 +234,55 @@ ebpf_status ebpf_machine_put(ebpf_machine *machine, uint32_t kind, const uint8_t
  *
  * EBPF_EMPTY, EBPF_KIND. */
 ebpf_status ebpf_machine_take(ebpf_machine *machine, uint32_t kind, uint8_t *bytes, size_t length, bool *found);
+
+/* Makes what up to `workers` workers share, 1 to 64: all objects of their runs are on at most `pages` pages of 4,096 bytes, 1 to 256. A page is
+ * allocated when it is first needed; the rest is allocated here, and when a worker runs for the first time. What the handle held before is
+ * freed as by ebpf_shared_free. EBPF_PAGES, EBPF_WORKERS, EBPF_NO_MEMORY. */
+ebpf_status ebpf_shared_new(ebpf_shared *shared, uint32_t pages, uint32_t workers);
+
+/* Opens a worker, which then runs on any thread beside the others. Workers may be opened and closed at any time, also while others run. What
+ * the handle held before is closed, but only then: where each worker is open, close it first. EBPF_EMPTY, EBPF_BUSY (each is open),
+ * EBPF_NO_MEMORY. */
+ebpf_status ebpf_worker_open(ebpf_worker *worker, ebpf_shared *shared);
+
+/* Runs a program as ebpf_machine_run does, over what the workers share. No call waits for another thread: nothing here takes a lock, and a
+ * worker that is stopped, or whose thread is dead, stops none of the others. A call of new is also answered null if other workers are
+ * at the slabs or the pages for too long. A swap finds what some worker left on that shelf, or the host did, or nothing; which of
+ * several workers gets it is not promised, but only one does. The CAUTION of ebpf_machine_run holds here too.
+ *
+ * EBPF_CONTEXT, EBPF_EMPTY, EBPF_NO_MEMORY: nothing was run, and output and report are as they were. */
+ebpf_status ebpf_worker_run(ebpf_worker *worker, const ebpf_program *program, const uint8_t *context, size_t context_length, uint64_t limit,
+                            uint64_t *output, size_t output_length, ebpf_report *report);
+
+/* Runs a program on many contexts, as ebpf_machine_run_batch does, over what the workers share: other workers run meanwhile, so what a run leaves
+ * on a shelf, the next may not find. EBPF_CONTEXT, EBPF_EMPTY, EBPF_NO_MEMORY, as there. */
+ebpf_status ebpf_worker_run_batch(ebpf_worker *worker, const ebpf_program *program, const uint8_t *contexts, size_t contexts_length,
+                                  uint64_t limit, ebpf_report *reports, size_t count, size_t *done);
+
+/* Leaves an object of a kind on the shelf that all workers share, as ebpf_machine_put does on that of a machine, and takes the object that is
+ * there from it, as ebpf_machine_take does. Other workers run meanwhile: what was put may be gone at once, and only one gets it. *replaced says
+ * whether another object came off the shelf for it, which is given back.
+ *
+ * EBPF_EMPTY, EBPF_KIND, EBPF_LENGTH, EBPF_NO_OBJECT: nothing was put. */
+ebpf_status ebpf_worker_put(ebpf_worker *worker, uint32_t kind, const uint8_t *bytes, size_t length, bool *replaced);
+ebpf_status ebpf_worker_take(ebpf_worker *worker, uint32_t kind, uint8_t *bytes, size_t length, bool *found);
+
+/* Closes a worker: the handle is empty then, and another worker may be opened in its place. Any thread may do so. Free what it holds
+ * by this; what it was granted and gave back stays counted. */
+void ebpf_worker_close(ebpf_worker *worker);
+
+/* Gives back each page of which no object is held, on a shelf, or kept by a worker, so that objects of any kind may be there. *pages is how
+ * many pages were. A worker keeps a few objects of each kind for its next runs, also after it was closed. Workers may run meanwhile: what one
+ * of them is at is left. EBPF_EMPTY. */
+ebpf_status ebpf_shared_reap(ebpf_shared *shared, uint32_t *pages);
+
+/* Closes what workers shared, when no worker is open: what is on the shelves goes back, all is freed, and *totals has the sums of what all
+ * workers did since ebpf_shared_new. They are exact. The handle is empty then. EBPF_EMPTY. EBPF_BUSY: a worker is open, or a
+ * thread isn't through with closing one; nothing changed, and *totals is as it was. */
+ebpf_status ebpf_shared_close(ebpf_shared *shared, ebpf_totals *totals);
+
+/* Frees the handle. Workers that are open go on, and all is freed with the last of them; none can be opened any more. */
+void ebpf_shared_free(ebpf_shared *shared);
 
 /* The library's own functions take no null pointer. The names of those with a length mean these from here on, which pass one that isn't
  * null where the length is 0. A caller that doesn't compile this header, as from Python, has to do so itself. */
@@ -237,6 +334,16 @@ static inline ebpf_status ebpf_machine_run_or_null(ebpf_machine *machine, const 
 }
 #define ebpf_machine_run ebpf_machine_run_or_null
 
+static inline ebpf_status ebpf_machine_run_batch_or_null(ebpf_machine *machine, const ebpf_program *program, const uint8_t *contexts,
+                                                         size_t contexts_length, uint64_t limit, ebpf_report *reports, size_t count,
+                                                         size_t *done) {
+    uint8_t no_context = 0;
+    ebpf_report no_report;
+    return ebpf_machine_run_batch(machine, program, contexts || contexts_length ? contexts : &no_context, contexts_length, limit,
+                                  reports || count ? reports : &no_report, count, done);
+}
+#define ebpf_machine_run_batch ebpf_machine_run_batch_or_null
+
 static inline ebpf_status ebpf_machine_put_or_null(ebpf_machine *machine, uint32_t kind, const uint8_t *bytes, size_t length, bool *replaced) {
     uint8_t no_bytes = 0;
     return ebpf_machine_put(machine, kind, bytes || length ? bytes : &no_bytes, length, replaced);
@@ -248,6 +355,38 @@ static inline ebpf_status ebpf_machine_take_or_null(ebpf_machine *machine, uint3
     return ebpf_machine_take(machine, kind, bytes || length ? bytes : &no_bytes, length, found);
 }
 #define ebpf_machine_take ebpf_machine_take_or_null
+
+static inline ebpf_status ebpf_worker_run_or_null(ebpf_worker *worker, const ebpf_program *program, const uint8_t *context,
+                                                  size_t context_length, uint64_t limit, uint64_t *output, size_t output_length,
+                                                  ebpf_report *report) {
+    uint8_t no_context = 0;
+    uint64_t no_output = 0;
+    return ebpf_worker_run(worker, program, context || context_length ? context : &no_context, context_length, limit,
+                           output || output_length ? output : &no_output, output_length, report);
+}
+#define ebpf_worker_run ebpf_worker_run_or_null
+
+static inline ebpf_status ebpf_worker_run_batch_or_null(ebpf_worker *worker, const ebpf_program *program, const uint8_t *contexts,
+                                                        size_t contexts_length, uint64_t limit, ebpf_report *reports, size_t count,
+                                                        size_t *done) {
+    uint8_t no_context = 0;
+    ebpf_report no_report;
+    return ebpf_worker_run_batch(worker, program, contexts || contexts_length ? contexts : &no_context, contexts_length, limit,
+                                 reports || count ? reports : &no_report, count, done);
+}
+#define ebpf_worker_run_batch ebpf_worker_run_batch_or_null
+
+static inline ebpf_status ebpf_worker_put_or_null(ebpf_worker *worker, uint32_t kind, const uint8_t *bytes, size_t length, bool *replaced) {
+    uint8_t no_bytes = 0;
+    return ebpf_worker_put(worker, kind, bytes || length ? bytes : &no_bytes, length, replaced);
+}
+#define ebpf_worker_put ebpf_worker_put_or_null
+
+static inline ebpf_status ebpf_worker_take_or_null(ebpf_worker *worker, uint32_t kind, uint8_t *bytes, size_t length, bool *found) {
+    uint8_t no_bytes = 0;
+    return ebpf_worker_take(worker, kind, bytes || length ? bytes : &no_bytes, length, found);
+}
+#define ebpf_worker_take ebpf_worker_take_or_null
 
 #ifdef __cplusplus
 }

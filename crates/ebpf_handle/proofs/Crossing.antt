@@ -1,5 +1,4 @@
 -- What a handle owns may go to another thread where its value may.
-use Rattle.std.proofs.Common.{List, [], ◌∷◌}
 use Rattle.std.specs.Prelude.{Option, Some, None}
 use mir.Raw.{raw}
 use base.Shift.{Keyless}

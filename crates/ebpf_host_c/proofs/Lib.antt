@@ -1,4 +1,5 @@
 pub mod Passing
+pub mod InTurn
 pub mod InRange
 pub mod Holding
 pub mod Unloading

@@ -48,19 +48,23 @@ pub record IsRefusalReported (refuses : Refusal → Type 0) (lines : Option ℕ 
   pub is : refuses refusal
   pub reported_with : IsReportedWith refusal lines room text filled
 
--- a report of a run on a machine, with the output as far as there is room
+-- what C is given of a report, with the output as far as there is room
+pub record IsWritten (r : Report) (room output : List ℕ) (filled : Reported) : Type 0 where
+  pub exited : filled.exited ≡ is_some r.exit
+  pub exit : filled.exit ≡ unwrap_or r.exit 0
+  pub executed : filled.executed ≡ r.executed
+  pub peak : filled.peak ≡ r.peak
+  pub outputs : filled.outputs ≡ length r.output
+  pub numbers : output ≡ copied r.output room
+  pub granted : filled.granted ≡ length (filter is_granted r.answers)
+  pub refused : filled.refused ≡ length (filter is_null r.answers)
+  pub fetched : filled.fetched ≡ length (filter is_fetched r.answers)
+  pub missed : filled.missed ≡ length (filter is_empty r.answers)
+
+-- a run on a machine, of which C is given the report
 pub record IsReportWritten (old new : Stocks) (s : Subject) (context : List ℕ) (limit : ℕ) (room output : List ℕ) (filled : Reported) : Type 0 where
   pub report : Report
   pub is : IsReportWithin s context limit report
   pub found : AreFound old s context report
   pub left : AreLeft old new s context report
-  pub exited : filled.exited ≡ is_some report.exit
-  pub exit : filled.exit ≡ unwrap_or report.exit 0
-  pub executed : filled.executed ≡ report.executed
-  pub peak : filled.peak ≡ report.peak
-  pub outputs : filled.outputs ≡ length report.output
-  pub numbers : output ≡ copied report.output room
-  pub granted : filled.granted ≡ length (filter is_granted report.answers)
-  pub refused : filled.refused ≡ length (filter is_null report.answers)
-  pub fetched : filled.fetched ≡ length (filter is_fetched report.answers)
-  pub missed : filled.missed ≡ length (filter is_empty report.answers)
+  pub written : IsWritten report room output filled

@@ -5,6 +5,10 @@ use Rattle.ebpf_object.specs.declared.kind_name.KindName.{KindName}
 use Rattle.ebpf_object.specs.declared.kind_name.KindName.TheVariants.{Cell, Record, Block}
 use Rattle.ebpf_host.specs.declared.stocks.Stocks.{Stocks}
 use Rattle.ebpf_host.specs.Shelving.{IsFetched, IsPut, ShelfChanges, image_of, on_shelf}
+use Rattle.ebpf_host.specs.Workers.{HasTaken}
+use Rattle.ebpf_object.specs.KindName.{number_of}
+use Rattle.shared_store.specs.Putting.{HasPut}
+use Rattle.shared_store.specs.Tools.{ToolsView}
 use Rattle.ebpf_host_c.specs.declared.status.TheConstants.{DONE, KIND, LENGTH, NO_OBJECT}
 
 -- the kind with this number
@@ -24,6 +28,15 @@ IsPutOn kind bytes old new replaced =
 abbrev pub IsTakenFrom : ℕ → Option Stocks → Option Stocks → (room filled : List ℕ) → Bool → Type 0
 IsTakenFrom kind old new room filled found =
     MatchOption (kind_of kind) ⊥ (λ k. MatchOption old ⊥ (λ before. MatchOption new ⊥ (λ after. IsFetched found (on_shelf before k) (on_shelf after k) room filled)))
+
+-- the same by a worker
+abbrev pub IsPutBy : ℕ → (old new : Option ToolsView) → (replaced : Bool) → Type 0
+IsPutBy kind old new replaced =
+    MatchOption (kind_of kind) ⊥ (λ k. MatchOption old ⊥ (λ before. MatchOption new ⊥ (λ after. HasPut before after k replaced)))
+
+abbrev pub IsTakenBy : ℕ → (old new : Option ToolsView) → (room filled : List ℕ) → (found : Bool) → Type 0
+IsTakenBy kind old new room filled found =
+    MatchOption (kind_of kind) ⊥ (λ k. MatchOption old ⊥ (λ before. MatchOption new ⊥ (λ after. HasTaken before after (number_of k) found room filled)))
 
 -- what a call with that many bytes returns: an object of the kind has as many, or fewer
 abbrev pub IsPutStatus : ℕ → (length : ℕ) → (status : ℕ) → Type 0

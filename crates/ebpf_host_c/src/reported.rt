@@ -234,7 +234,9 @@ pub(crate) fn write_report<H>(done: &Ended<H>, output: &mut [u64], report: &mut 
     ensures missed { report.new.missed ≡ length (filter is_empty done.now.answers) }
 {
     let numbers = done.output();
-    copy(numbers, output);
+    if !numbers.is_empty() {
+        copy(numbers, output);
+    }
     let counts = counts_of(done.answers());
     let exit = done.exit();
     *report = Reported {

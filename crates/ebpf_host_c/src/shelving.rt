@@ -68,8 +68,8 @@ pub extern "C" fn ebpf_machine_take(
     DONE
 }
 
-// The kind with this number, if there is one.
-fn kind_of(number: u32) -> Option<KindName>
+/// The kind with this number, if there is one.
+pub(crate) fn kind_of(number: u32) -> Option<KindName>
     ensures { result ≡ kind_of number }
 {
     match number {

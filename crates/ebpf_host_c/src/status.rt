@@ -29,3 +29,9 @@ pub const LENGTH: u32 = 8;
 
 /// There is no page, or no memory, for one more object.
 pub const NO_OBJECT: u32 = 9;
+
+/// The number of workers is out of its range.
+pub const WORKERS: u32 = 10;
+
+/// As many workers are open as may be, or one is.
+pub const BUSY: u32 = 11;

@@ -1,5 +1,4 @@
 -- A handle of a machine may go to another thread, since a machine may.
-use Rattle.std.specs.Prelude.{[], ◌∷◌}
 use denote.Struct.Struct.{exits_of}
 use denote.Struct.Owning.{shape, fields, to}
 use denote.Param.Send.{IsSend, AllSend, owning_send, struct_send, sendable}

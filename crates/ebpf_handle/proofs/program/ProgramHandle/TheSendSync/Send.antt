@@ -1,6 +1,4 @@
 -- A handle of a program may go to another thread, since an `Arc` of a program may.
-use Rattle.std.specs.Prelude.{[], ◌∷◌}
-use denote.RattleType.{RattleType}
 use denote.Struct.Struct.{exits_of}
 use denote.Struct.Owning.{shape, fields, to}
 use denote.Param.Send.{IsSend, AllSend, owning_send, struct_send, sendable}

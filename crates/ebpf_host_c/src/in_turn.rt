@@ -1,0 +1,132 @@
+//! Runs of one program in turn, in one memory: each on the next of the contexts, which are one after another.
+
+ghost use Rattle.std.specs.Prelude.{◌≡◌, ◌≤◌, ◌<◌, ℕ, IfOk, IfErr, length, slice_get};
+ghost use Rattle.ebpf_machine.specs.Kinds.{known_kinds};
+ghost use Rattle.ebpf_host.specs.Finding.{TellsShelves};
+ghost use Rattle.shared_store.specs.Tools.{HoldNothing};
+ghost use Rattle.ebpf_host_c.specs.InTurn.{AreContexts, AreRun, AreRunBy, AreRunOn};
+
+use crate::reported::{Reported, write_report};
+use ebpf_host::machine::Machine;
+use ebpf_host::memory::Memory;
+use ebpf_host::program::Program;
+use ebpf_host::within::run_within;
+use ebpf_host::worker::Worker;
+use ebpf_machine::objects::Objects;
+use ebpf_machine::workspace::Workspace;
+use ebpf_object::Object;
+
+/// Runs a program on as many contexts as there are reports, with the objects of a store, and writes each report. The numbers of output of a
+/// run are written to `output`, over those of the run before it. Returns the memory of the runs, for the next.
+///
+/// # Errors
+/// A run found no memory: how many were run before it. The memory of the runs is freed then.
+pub(crate) fn run_each<O: Objects>(
+    workspace: Workspace<O::Held>,
+    program: &Program,
+    contexts: &[u8],
+    objects: &mut O,
+    limit: u64,
+    output: &mut [u64],
+    reports: &mut [Reported],
+) -> Result<Workspace<O::Held>, usize>
+    requires kinds { O.store.kinds ≡ known_kinds }
+    requires room { (store : O) → O.store.can_give store }
+    requires tells { TellsShelves O.store }
+    requires contexts { AreContexts program.now (length reports.old) contexts.now }
+    ensures all { IfOk result (λ _. AreRun O.store program.now contexts.now limit (length reports.old) reports.new (objects.old, output.old) (objects.new, output.new)) }
+    ensures some { IfErr result (λ n. AreRun O.store program.now contexts.now limit n reports.new (objects.old, output.old) (objects.new, output.new)) }
+    ensures outs { (k : ℕ) → O.store.outs objects.new k ≡ O.store.outs objects.old k }
+    ensures fewer { IfErr result (λ n. n < length reports.old) }
+    ensures unmade { IfErr result (λ n. (k : ℕ) → n ≤ k → slice_get reports.new k ≡ slice_get reports.old k) }
+{
+    let length = program.context() as usize;
+    let mut workspace = workspace;
+    'runs: for number in 0..reports.len() {
+        let context = &contexts[number * length..][..length];
+        match run_within(workspace, program, context, objects, limit) {
+            Ok(ended) => {
+                write_report(&ended, output, &mut reports[number]);
+                workspace = ended.forget();
+            }
+            Err(_) => return Err(number),
+        }
+    }
+    Ok(workspace)
+}
+
+/// Does the same in memory that is kept from one run to the next. Returns how many were run: all, or those before one that found no memory.
+pub(crate) fn run_all<O: Objects<Held = Object>>(
+    memory: &mut Memory,
+    program: &Program,
+    contexts: &[u8],
+    objects: &mut O,
+    limit: u64,
+    output: &mut [u64],
+    reports: &mut [Reported],
+) -> usize
+    requires kinds { O.store.kinds ≡ known_kinds }
+    requires room { (store : O) → O.store.can_give store }
+    requires tells { TellsShelves O.store }
+    requires contexts { AreContexts program.now (length reports.old) contexts.now }
+    ensures ran { AreRun O.store program.now contexts.now limit result reports.new (objects.old, output.old) (objects.new, output.new) }
+    ensures outs { (k : ℕ) → O.store.outs objects.new k ≡ O.store.outs objects.old k }
+    ensures most { result ≤ length reports.old }
+    ensures unmade { (k : ℕ) → result ≤ k → slice_get reports.new k ≡ slice_get reports.old k }
+{
+    if reports.is_empty() {
+        return 0;
+    }
+    let Ok(workspace) = memory.take() else {
+        return 0;
+    };
+    match run_each(
+        workspace, program, contexts, objects, limit, output, reports,
+    ) {
+        Ok(workspace) => {
+            memory.put(workspace);
+            reports.len()
+        }
+        Err(done) => done,
+    }
+}
+
+/// Does the same on a machine.
+pub(crate) fn run_on(
+    machine: &mut Machine,
+    program: &Program,
+    contexts: &[u8],
+    limit: u64,
+    output: &mut [u64],
+    reports: &mut [Reported],
+) -> usize
+    requires { AreContexts program.now (length reports.old) contexts.now }
+    ensures ran { AreRunOn program.now contexts.now limit result reports.new (machine.old, output.old) (machine.new, output.new) }
+    ensures most { result ≤ length reports.old }
+    ensures unmade { (k : ℕ) → result ≤ k → slice_get reports.new k ≡ slice_get reports.old k }
+    ensures pages { machine.new.arena.pages ≡ machine.old.arena.pages }
+{
+    let stocks = &mut *machine.stocks;
+    let memory = &mut machine.memory;
+    run_all(memory, program, contexts, stocks, limit, output, reports)
+}
+
+/// Does the same by a worker.
+pub(crate) fn run_by(
+    worker: &mut Worker,
+    program: &Program,
+    contexts: &[u8],
+    limit: u64,
+    output: &mut [u64],
+    reports: &mut [Reported],
+) -> usize
+    requires { AreContexts program.now (length reports.old) contexts.now }
+    ensures ran { AreRunBy program.now contexts.now limit result reports.new (worker.old, output.old) (worker.new, output.new) }
+    ensures none { HoldNothing worker.new }
+    ensures most { result ≤ length reports.old }
+    ensures unmade { (k : ℕ) → result ≤ k → slice_get reports.new k ≡ slice_get reports.old k }
+{
+    let store = &mut *worker.store;
+    let memory = &mut worker.memory;
+    run_all(memory, program, contexts, store, limit, output, reports)
+}
