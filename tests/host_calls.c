@@ -1,6 +1,6 @@
-/* Each function of include/ebpf_host.h with each of its statuses; objects on shelves; programs that are refused, each with its code, from the file that is the
- * first argument; functions of the object files that are the others; programs with loops; handles that go from one thread to another; and
- * each allocation refused in turn: malloc and realloc are those below, by the linker's --wrap. */
+/* Each function of include/ebpf_host.h, but those of workers, with each of its statuses; batches of runs; objects on shelves; programs that are
+ * refused, each with its code, from the file that is the first argument; functions of the object files that are the others; programs with loops;
+ * handles that go from one thread to another; and each allocation refused in turn: malloc and realloc are those below, by the linker's --wrap. */
 #include <assert.h>
 #include <pthread.h>
 #include <stdio.h>
@@ -525,13 +525,69 @@ static void shelves(void) {
     ebpf_machine_free(&machine);
 }
 
+enum { MOST_RUNS = 64 };
+
+static ebpf_report reports[MOST_RUNS + 1]; /* the last is for no run */
+static size_t done;
+
+static ebpf_status run_batch(const void *contexts, size_t length, size_t count, uint64_t limit) {
+    void *words[] = {machine.word, program.word};
+    memset(reports, 'x', sizeof reports), done = SIZE_MAX;
+    ebpf_status status = ebpf_machine_run_batch(&machine, &program, contexts, length, limit, reports, count, &done);
+    assert(machine.word == words[0] && program.word == words[1]);
+    assert(status == EBPF_DONE ? done == count : status == EBPF_NO_MEMORY ? done < count : done == SIZE_MAX);
+    size_t written = done == SIZE_MAX ? 0 : done;
+    assert(is_marked(&reports[written], sizeof reports - written * sizeof *reports)); /* nothing else was run */
+    return status;
+}
+
+/* Batches of runs: each status, no run, one and many; what one run leaves on a shelf, the next one finds. */
+static void batches(void) {
+    uint32_t numbers[MOST_RUNS];
+    uint8_t bytes[MOST_RUNS], there[64];
+    bool found;
+    for (uint32_t i = 0; i < MOST_RUNS; i++) numbers[i] = 1000 + i * i, bytes[i] = (uint8_t)(i + 1);
+    assert(run_batch(numbers, 4, 1, 9) == EBPF_EMPTY);
+    assert(ebpf_machine_new(&machine, 1) == EBPF_DONE && run_batch(numbers, 4, 1, 9) == EBPF_EMPTY);
+    assert(load(READ, 4, 0) == EBPF_DONE);
+    assert(run_batch(numbers, 3, 1, 9) == EBPF_CONTEXT && run_batch(numbers, 8, 1, 9) == EBPF_CONTEXT);
+    assert(run_batch(numbers, 4, 0, 9) == EBPF_CONTEXT && run_batch(NULL, 0, 1, 9) == EBPF_CONTEXT);
+    assert(run_batch(NULL, 0, 0, 9) == EBPF_DONE);
+    assert(ebpf_machine_run_batch(&machine, &program, NULL, 0, 9, NULL, 0, &done) == EBPF_DONE && done == 0);
+    for (size_t count = 1; count <= MOST_RUNS; count += MOST_RUNS - 1) {
+        assert(run_batch(numbers, 4 * count, count, 9) == EBPF_DONE);
+        for (size_t i = 0; i < count; i++) assert(reports[i].exited && reports[i].exit == numbers[i] && reports[i].executed == 2);
+    }
+    assert(run_batch(numbers, sizeof numbers, MOST_RUNS, 1) == EBPF_DONE); /* each has its own limit */
+    for (int i = 0; i < MOST_RUNS; i++) assert(!reports[i].exited && reports[i].exit == 0 && reports[i].executed == 1);
+
+    assert(load(EMIT, 1, 0) == EBPF_DONE && run_batch(bytes, MOST_RUNS, MOST_RUNS, 9) == EBPF_DONE);
+    for (int i = 0; i < MOST_RUNS; i++) assert(reports[i].exit == 7 && reports[i].outputs == 1);
+    assert(load(CELL, 0, 1) == EBPF_DONE && run_batch(NULL, 0, MOST_RUNS, 100) == EBPF_DONE);
+    for (int i = 0; i < MOST_RUNS; i++) assert(reports[i].exit == 5 && reports[i].granted == 1 && reports[i].peak == 1);
+
+    assert(ebpf_machine_reap(&machine) == EBPF_DONE && load(LEAVE, 1, 1) == EBPF_DONE);
+    for (int turn = 0; turn < 2; turn++) {
+        assert(run_batch(bytes, MOST_RUNS, MOST_RUNS, 100) == EBPF_DONE);
+        for (int i = 0; i < MOST_RUNS; i++) {
+            uint64_t missed = turn == 0 && i == 0;
+            assert(reports[i].exited && reports[i].granted == 1 && reports[i].missed == missed && reports[i].fetched == 1 - missed);
+        }
+    }
+    assert(ebpf_machine_take(&machine, EBPF_RECORD, there, 64, &found) == EBPF_DONE && found && there[0] == MOST_RUNS);
+    assert(run_batch(bytes, 1, 1, 100) == EBPF_DONE && reports[0].missed == 1);
+    ebpf_program_free(&program);
+    assert(run_batch(bytes, 1, 1, 100) == EBPF_EMPTY);
+    ebpf_machine_free(&machine);
+}
+
 /* each status has a text of its own, and all others have one */
 static void status_texts(void) {
-    for (ebpf_status one = EBPF_DONE; one <= EBPF_NO_OBJECT; one++)
-        for (ebpf_status other = one + 1; other <= EBPF_NO_OBJECT + 1; other++)
+    for (ebpf_status one = EBPF_DONE; one <= EBPF_BUSY; one++)
+        for (ebpf_status other = one + 1; other <= EBPF_BUSY + 1; other++)
             assert(strcmp(ebpf_status_text(one), ebpf_status_text(other)));
     assert(!strcmp(ebpf_status_text(EBPF_DONE), "done") && !strcmp(ebpf_status_text(EBPF_NO_MEMORY), "out of memory"));
-    assert(!strcmp(ebpf_status_text(EBPF_NO_OBJECT + 1), "unknown status") && !strcmp(ebpf_status_text(UINT32_MAX), "unknown status"));
+    assert(!strcmp(ebpf_status_text(EBPF_BUSY + 1), "unknown status") && !strcmp(ebpf_status_text(UINT32_MAX), "unknown status"));
 }
 
 static void *on_another_thread(void *unused) {
@@ -587,6 +643,24 @@ static int shared(long allocations) {
     return refused;
 }
 
+/* The same of a batch: the runs before one that finds no memory were done, and a batch of the rest does them. */
+static int batch_served(long allocations) {
+    const size_t count = 3;
+    assert(ebpf_machine_new(&machine, 1) == EBPF_DONE && load(CELL, 0, 1) == EBPF_DONE);
+    refused = 0;
+    left = allocations;
+    ebpf_status status = run_batch(NULL, 0, count, 100);
+    left = -1;
+    assert(status == EBPF_DONE || (status == EBPF_NO_MEMORY && refused));
+    size_t before = done;
+    for (size_t i = 0; i < before; i++) assert(reports[i].exited && (reports[i].exit == 5 || (refused && reports[i].refused == 1)));
+    assert(run_batch(NULL, 0, count - before, 100) == EBPF_DONE);
+    for (size_t i = 0; i < count - before; i++) assert(reports[i].exit == 5);
+    ebpf_machine_free(&machine);
+    ebpf_program_free(&program);
+    return refused;
+}
+
 /* The load of a loop with n allocations served, the same. */
 static int loop_served(long allocations, const char *digits, ebpf_status status) {
     refused = 0;
@@ -626,16 +700,18 @@ int main(int count, char **words) {
     shares();
     no_items();
     shelves();
+    batches();
     status_texts();
     one_thread_after_another();
-    long allocations = 0, of_share = 0;
+    long allocations = 0, of_share = 0, of_batch = 0;
     while (served(allocations)) allocations++;
     while (shared(of_share)) of_share++;
-    assert(allocations > 10 && of_share > 0);
+    while (batch_served(of_batch)) of_batch++;
+    assert(allocations > 10 && of_share > 0 && of_batch > 3);
     read_object(words[2]);
     long loads = each_allocation("largest", EBPF_DONE), faults = each_allocation("", EBPF_REFUSED);
     assert(loads > 5 && faults > 0);
-    allocations += loads + faults + of_share + each_allocation_of_loops() + each_allocation_of_tables(words[3], words[7]);
+    allocations += loads + faults + of_share + of_batch + each_allocation_of_loops() + each_allocation_of_tables(words[3], words[7]);
     printf("host: %u refused programs, %ld refused allocations, %ld of a share\n", refusals, allocations, of_share);
     return 0;
 }

@@ -81,7 +81,7 @@ fn each_call_is_made_again_where_memory_is_refused(rt: HostRuntime) {
     }
     out.destroy_empty();
     closing.push_reserved(hand);
-    let totals = cache.close(closing, &arena, &mut pages, PAUSES);
+    let totals = cache.close(closing, None, &arena, &mut pages, PAUSES);
     ending.push_reserved(pages);
     holds(&rt, totals.allocs == 20 && totals.frees == 20 && totals.missing == 0 && totals.foreign == 0);
     holds(&rt, arena.close(ending).largest() == 8);

@@ -72,7 +72,7 @@ pub(crate) fn closed<K: Kind>(rt: &impl Abort, alloc: Global, cache: Cache<K>, a
         panic!(rt; "no memory");
     };
     hands.push_reserved(hand);
-    let totals = cache.close(hands, &arena, &mut pages, PAUSES);
+    let totals = cache.close(hands, None, &arena, &mut pages, PAUSES);
     passes.push_reserved(pages);
     (totals, arena.close(passes))
 }
@@ -281,7 +281,7 @@ fn crowd<K: Kind + Send + Sync, R: Threads + Abort + Sync>(rt: &R, alloc: Global
     let Some(pass) = passes.last_mut() else {
         panic!(rt; "there are passes");
     };
-    let totals = cache.close(hands, &arena, pass, PAUSES);
+    let totals = cache.close(hands, None, &arena, pass, PAUSES);
     holds(rt, totals.allocs == taken && totals.frees == taken && totals.nulls == nulls && totals.busy == busy);
     holds(rt, totals.missing == 0 && totals.foreign == 0 && nulls == 0);
     holds(rt, arena.close(passes).largest() == pages);

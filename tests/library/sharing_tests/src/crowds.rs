@@ -11,9 +11,9 @@ use std::process::Abort;
 use std::thread::{Threads, for_each_mut};
 
 #[derive(Drop)]
-struct Value {
-    number: u64,
-    is_out: bool,
+pub(crate) struct Value {
+    pub(crate) number: u64,
+    pub(crate) is_out: bool,
     turns: u64,
     again: u64,
 }
@@ -38,7 +38,7 @@ struct Worker {
 }
 
 // This many values, each with a bit of its own.
-fn values_of(alloc: Global, count: usize) -> Result<Vec<Box<Value>>, AllocError> {
+pub(crate) fn values_of(alloc: Global, count: usize) -> Result<Vec<Box<Value>>, AllocError> {
     let mut values = Vec::with_capacity(alloc, count)?;
     for place in 0..count {
         let value = Value {
@@ -53,7 +53,7 @@ fn values_of(alloc: Global, count: usize) -> Result<Vec<Box<Value>>, AllocError>
 }
 
 // The value was with nobody, and is with this thread now.
-fn mark(rt: &impl Abort, value: &mut Box<Value>) {
+pub(crate) fn mark(rt: &impl Abort, value: &mut Box<Value>) {
     holds(rt, !value.is_out && value.number == value.again);
     value.is_out = true;
     value.turns += 1;
@@ -109,7 +109,7 @@ fn ended(alloc: Global, mut workers: Vec<Worker>) -> Result<(u64, Vec<Pass<Box<V
 }
 
 // Each value is there once, with nobody, and the turns that were done with all of them are as many as those that the threads made.
-fn are_whole(rt: &impl Abort, values: &[Box<Value>], turns: u64) {
+pub(crate) fn are_whole(rt: &impl Abort, values: &[Box<Value>], turns: u64) {
     let mut bits = 0;
     let mut done = 0;
     for value in values {

@@ -1,9 +1,10 @@
-//! Each public call of shared_row and exchange_shelf, made once, and each type with its fields.
+//! Each public call of shared_row, exchange_shelf and lending_row, made once, and each type with its fields.
 //!
 //! They are written only from the signatures, so a reader of these can see here how a call looks.
 
 use crate::facts::holds;
 use exchange_shelf::{Left, Shelf, ShelfHand};
+use lending_row::{Fitting, LendingRow, Lent, Loan, Returned};
 use shared_row::{Pass, Row, Scale};
 use std::alloc::AllocError;
 use std::process::Abort;
@@ -15,6 +16,15 @@ impl Scale<u64> for Tens {
     ghost left = { λ x. x };
 
     ghost right = { λ x. 10 };
+}
+
+// A number is at most the one that its row was told.
+pub(crate) struct AtMost;
+
+impl Fitting<u64, u64> for AtMost {
+    ghost use Rattle.std.specs.Prelude.{◌≤◌};
+
+    ghost fits = { λ most x. x ≤ most };
 }
 
 // The only element of a list.
@@ -56,5 +66,26 @@ fn a_value_is_left_and_got(rt: HostRuntime) -> Result<(), AllocError> {
     holds(&rt, shelf.swap(&mut hand, Some(7)).is_none());
     let Left { object, puts, gets } = shelf.close(vec![in alloc; hand]?);
     holds(&rt, object == Some(7) && puts == 3 && gets == 2);
+    Ok(())
+}
+
+#[test]
+fn a_value_is_lent(rt: HostRuntime) -> Result<(), AllocError> {
+    let alloc = rt.alloc();
+    let made: Result<LendingRow<u64, u64, AtMost>, Vec<u64>> = LendingRow::new(alloc, vec![in alloc; 10, 20]?, &30);
+    let Ok(row) = made else {
+        panic!(&rt; "no memory");
+    };
+    holds(&rt, row.places() == 2);
+    let taken: Result<(u64, Loan<u64, u64>), Lent<u64, u64>> = row.take(1);
+    let Ok((value, loan)) = taken else {
+        panic!(&rt; "the value is there");
+    };
+    holds(&rt, value == 20 && row.take(1).is_err());
+    let _: Returned<u64, u64> = row.put(loan, value + 5);
+    let Ok((value, _)) = row.take(1) else {
+        panic!(&rt; "the value is back");
+    };
+    holds(&rt, value == 25);
     Ok(())
 }
