@@ -50,14 +50,15 @@ copy_crates() {
     done
 }
 
-# Proves and builds the benchmark's program in the copy, and runs it once: NAME FILE CRATES WORD.. Sets `program`.
+# Proves and builds a program in the copy, with the answers beside its file, and runs it once: NAME FILE CRATES WORD.. Sets `program`.
 build() {
     crate=$folder/crates/$1
     program=$crate/out/$1
+    from=$(dirname "$here/$2")
     rm -rf "$crate/src" "$crate/specs" "$crate/proofs"
     mkdir -p "$crate/src"
     cp "$here/$2" "$crate/src/main.rt"
-    for file in "$here"/*.antt.txt; do
+    for file in "$from"/*.antt.txt; do
         if [ -e "$file" ]; then
             name=$(basename "$file" .antt.txt)
             mkdir -p "$crate/proofs/${name%%.*}"
