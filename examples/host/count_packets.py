@@ -1,9 +1,10 @@
 """Counts the packets of a capture by class, as count_packets.c does, over the shared object: a call lets other threads of Python run.
 
-    count_packets.py LIBRARY CLASSES.o CAPTURE.pcap [THREADS]
+    jobs-of-pcap CAPTURE.pcap frame 24 | count_packets.py LIBRARY CLASSES.o [THREADS]
+
+The lines of jobs-of-pcap have the first 24 bytes of each frame as hex.
 """
 import ctypes
-import struct
 import sys
 import threading
 
@@ -23,16 +24,6 @@ class Totals(ctypes.Structure):
     _fields_ = [("kinds", Kind * 3), ("clashes", ctypes.c_uint64), ("strays", ctypes.c_uint64)]
 
 
-def frames(capture):
-    """The first bytes of each frame, with zeros after a shorter one."""
-    order = {b"\xd4\xc3\xb2\xa1": "<", b"\x4d\x3c\xb2\xa1": "<", b"\xa1\xb2\xc3\xd4": ">", b"\xa1\xb2\x3c\x4d": ">"}[capture[:4]]
-    at = 24
-    while at < len(capture):
-        (kept,) = struct.unpack_from(order + "8xI4x", capture, at)
-        yield capture[at + 16 : at + 16 + kept][:CONTEXT].ljust(CONTEXT, b"\0")
-        at += 16 + kept
-
-
 def check(status):
     if status:
         raise RuntimeError(f"status {status}")
@@ -50,8 +41,8 @@ def work(worker, mine, sums):
 
 
 library = ctypes.CDLL(sys.argv[1])
-classes, capture = (open(path, "rb").read() for path in sys.argv[2:4])
-many = int(sys.argv[4]) if len(sys.argv) > 4 else 4
+classes = open(sys.argv[2], "rb").read()
+many = int(sys.argv[3]) if len(sys.argv) > 3 else 4
 program, shared, workers = ctypes.c_void_p(), ctypes.c_void_p(), [ctypes.c_void_p() for _ in range(many)]  # empty handles
 why, refusal, size = ctypes.create_string_buffer(1024), ctypes.create_string_buffer(16), ctypes.c_size_t
 status = library.ebpf_program_load_elf(ctypes.byref(program), classes, size(len(classes)), b"", size(0), CONTEXT, HELD, why, size(1024), refusal)
@@ -61,7 +52,7 @@ check(status)
 check(library.ebpf_shared_new(ctypes.byref(shared), PAGES, many))
 for worker in workers:
     check(library.ebpf_worker_open(ctypes.byref(worker), ctypes.byref(shared)))
-every = list(frames(capture))
+every = [bytes.fromhex(line.split()[2]) for line in sys.stdin]
 sums = [[0] * 8 for _ in range(many + 1)]  # of each thread, and of the shelf
 threads = [threading.Thread(target=work, args=(workers[at], every[at::many], sums[at])) for at in range(many)]
 for thread in threads:
