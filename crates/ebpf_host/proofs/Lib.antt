@@ -4,4 +4,3 @@ pub mod CutOff
 pub mod Leaving
 pub mod Finding
 pub mod Forwarding
-pub mod Beginning

@@ -7,7 +7,5 @@ pub mod Finding
 pub mod Loading
 pub mod Unrolled
 pub mod Whole
-pub mod Contexts
-pub mod Four
 pub mod Shelving
 pub mod Workers
