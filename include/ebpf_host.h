@@ -272,8 +272,8 @@ ebpf_status ebpf_worker_take(ebpf_worker *worker, uint32_t kind, uint8_t *bytes,
 void ebpf_worker_close(ebpf_worker *worker);
 
 /* Gives back each page of which no object is held, on a shelf, or kept by a worker, so that objects of any kind may be there. *pages is how
- * many pages were. A worker keeps a few objects of each kind for its next runs, also after it was closed. Workers may run meanwhile: what one
- * of them is at is left. EBPF_EMPTY. */
+ * many pages were. A worker that is open keeps a few objects of each kind for its next runs. Workers may run meanwhile: what one of them is at
+ * is left. EBPF_EMPTY. */
 ebpf_status ebpf_shared_reap(ebpf_shared *shared, uint32_t *pages);
 
 /* Closes what workers shared, when no worker is open: what is on the shelves goes back, all is freed, and *totals has the sums of what all

@@ -4,3 +4,4 @@ pub mod CutOff
 pub mod Leaving
 pub mod Finding
 pub mod Forwarding
+pub mod Beginning

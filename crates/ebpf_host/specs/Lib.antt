@@ -7,5 +7,7 @@ pub mod Finding
 pub mod Loading
 pub mod Unrolled
 pub mod Whole
+pub mod Contexts
+pub mod Four
 pub mod Shelving
 pub mod Workers

@@ -2,10 +2,12 @@
 
 ghost use Rattle.std.specs.Prelude.{◌≡◌, ℕ, List, length, IfOk, IfErr, OnOk, OnErr};
 ghost use Rattle.ebpf_machine.specs.Kinds.{known_kinds};
+ghost use Rattle.ebpf_machine.specs.World.{kinds_of};
 ghost use Rattle.ebpf_machine.specs.RunState.{first_state_of, seen};
 ghost use Rattle.ebpf_machine.specs.Sound.{IsSound};
 ghost use Rattle.ebpf_machine.specs.Turns.{IsStartFault};
 ghost use Rattle.ebpf_host.specs.Finding.{IsFound, TellsShelves};
+ghost use Rattle.ebpf_host.specs.Four.{HasBegun, IsEndedWithin};
 ghost use Rattle.ebpf_host.specs.Leaving.{IsLeft};
 ghost use Rattle.ebpf_host.specs.Reports.{IsReportWithin};
 ghost use Rattle.ebpf_host.specs.Whole.{whole};
@@ -43,14 +45,32 @@ pub fn run_within<O: Objects>(
     ensures refused { IfErr result (IsStartFault (length (whole program.now context.now)) program.now.verified.decl.context) }
     ensures unchanged { OnErr result (objects.new ≡ objects.old) }
 {
-    let mut run = start(workspace, program, context)?;
-    run.run(objects, limit);
-    Ok(run.end_in_place(objects))
+    let run = start(workspace, program, context)?;
+    Ok(end_within(run, objects, limit))
 }
 
-// A run of a program at its first instruction.
+/// Goes on with a run to its end within a limit, from where it came with the store as it was at its start.
 #[inline(always)]
-fn start<'v, H>(
+pub(crate) fn end_within<O: Objects>(
+    run: Run<'_, O::Held>,
+    objects: &mut O,
+    limit: u64,
+) -> Ended<O::Held>
+    requires kinds { O.store.kinds ≡ kinds_of run.subject.rows }
+    requires room { (store : O) → O.store.can_give store }
+    requires tells { TellsShelves O.store }
+    requires begun { HasBegun O.store limit run objects.old }
+    ensures { IsEndedWithin O.store limit run.entry.subject run.entry.context result objects.old objects.new }
+{
+    let mut run = run;
+    let left = limit - run.executed();
+    run.run(objects, left);
+    run.end_in_place(objects)
+}
+
+/// A run of a program at its first instruction.
+#[inline(always)]
+pub(crate) fn start<'v, H>(
     workspace: Workspace<H>,
     program: &'v Program,
     context: &'v [u8],

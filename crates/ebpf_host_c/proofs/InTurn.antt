@@ -1,21 +1,25 @@
 -- Runs one after another: one more of them, and what is said of them by another view of the states.
-use Rattle.std.proofs.Common.{◌≡◌, ◌<◌, ◌+◌, ◌-◌, ◌*◌, ℕ, zero, suc, List, Option, Some, None, length, take, drop, refl, ap, ◌∙◌, arith, slice_get, slice_set}
+use Rattle.std.proofs.Common.{◌≡◌, ◌<◌, ◌≤◌, ◌+◌, ◌*◌, ℕ, zero, suc, List, Option, Some, None, length, refl, sym, ap, ◌∙◌, subst, arith, slice_get, slice_set}
 use native.Mathlib.Numerals.{unary_clauses}
 use Rattle.std.specs.Option.{MatchOption}
-use Rattle.std.proofs.lemmas.List.{take_rest}
+use Rattle.std.proofs.Math.Nat.{mul-le-mul_right}
+use Rattle.std.proofs.lemmas.List.{length-set}
 use Rattle.std.proofs.lemmas.Option.{slice_get-get_or}
 use Rattle.ebpf_machine.specs.declared.report.Reply.{Reply}
+use Rattle.ebpf_machine.specs.declared.report.Report.{Report}
 use Rattle.ebpf_machine.specs.Store.{Store, Shelved}
 use Rattle.ebpf_machine.proofs.Lists.ListLemmas.{get_set_other, get_set_same}
 use Rattle.ebpf_host.specs.declared.program.Program.{Program}
 use Rattle.ebpf_host.specs.declared.stocks.Stocks.{Stocks}
 use Rattle.ebpf_host.specs.Stocks.{standing_on}
+use Rattle.ebpf_host.specs.Contexts.{context_at}
+use Rattle.ebpf_host.specs.Four.{IsEndedWithin}
 use Rattle.ebpf_host.specs.Whole.{whole}
 use Rattle.ebpf_host.proofs.Finding.{found_on_machine}
 use Rattle.ebpf_host.proofs.Leaving.{on_machine}
 use Rattle.ebpf_host_c.specs.declared.reported.Reported.{Reported}
-use Rattle.ebpf_host_c.specs.Reported.{IsReportWritten}
-use Rattle.ebpf_host_c.specs.InTurn.{AreRun, AreRunBy, AreRunOn, IsRunAnswered, IsRunAt, IsRunBy, IsRunOn, IsRunOver, RunsTo, context_at, given_bytes}
+use Rattle.ebpf_host_c.specs.Reported.{IsReportWritten, IsWrittenAt}
+use Rattle.ebpf_host_c.specs.InTurn.{AreRun, AreRunBy, AreRunOn, IsRunAnswered, IsRunAt, IsRunBy, IsRunOn, IsRunOver, RunsTo}
 use Rattle.shared_store.specs.Going.{GoesBy}
 use Rattle.shared_store.specs.Tools.{ToolsView}
 
@@ -35,11 +39,6 @@ more_run : {S : Type 0} (run : ℕ → S → S → Type 0) (n : ℕ) (s between 
 unfolding RunsTo
 more_run run n s between t ran last = simp unary_clauses (between, ran, last)
 
--- the context with a number, as a part of a part of the bytes
-pub part_is : (p : Program) (n bytes : ℕ) (contexts : List ℕ) → given_bytes p ≡ bytes
-    → take bytes (take (length contexts - n * bytes) (drop (n * bytes) contexts)) ≡ context_at p n contexts
-part_is p n bytes contexts e = rw (e, take_rest contexts (n * bytes)) refl
-
 -- one run more, whose report is written over what was there
 pub next_run : {S H : Type 0} (o : Store S H) (p : Program) (contexts : List ℕ) (limit n : ℕ) (reports : List Reported) (filled : Reported)
     → (before between after : S × List ℕ) → n < length reports → AreRun o p contexts limit n reports before between
@@ -51,6 +50,31 @@ next_run {S} {H} o p contexts limit n reports filled before between after there 
     (runs_seen (IsRunAt o p contexts limit reports) (IsRunAt o p contexts limit (slice_set reports n filled)) (λ s. s) n
     (λ k a b below run. rw (get_set_other reports n k filled (omega (arith, below))) run) before between ran)
     (rw (written, ← same) last)
+
+-- one that ended, and whose report is written
+pub next_ended : {S H : Type 0} (o : Store S H) (p : Program) (contexts : List ℕ) (limit n more : ℕ) (reports now : List Reported) (report : Report)
+    (before between after : S × List ℕ) → n < length reports → more ≡ n + 1 → AreRun o p contexts limit n reports before between
+    → IsEndedWithin o limit p.verified (whole p (context_at p n contexts)) report between.0 after.0
+    → IsWrittenAt n report between.1 after.1 reports now → AreRun o p contexts limit more now before after
+next_ended o p contexts limit n more reports now report before between after there one ran ended w =
+    subst (λ (m : ℕ). AreRun o p contexts limit m now before after) (sym one)
+    (subst (λ (xs : List Reported). AreRun o p contexts limit (n + 1) xs before after) (sym w.is)
+    (next_run o p contexts limit n reports w.filled before between after there ran (context_at p n contexts) refl
+    (record { report = report; is = ended.report; goes = ended.goes; found = ended.found; left = ended.shelves; written = w.written })))
+
+-- there is a context for each report
+pub context_there : (count number bytes there : ℕ) → number ≤ count → there ≡ count * bytes → number * bytes ≤ there
+context_there count number bytes there few is = omega (arith, mul-le-mul_right bytes few, is)
+
+-- as many reports are there as before, and the others are as they were
+pub length_written : {n : ℕ} {report : Report} {room output : List ℕ} {reports now : List Reported} → IsWrittenAt n report room output reports now
+    → length now ≡ length reports
+length_written {n} {reports = reports} w = ap length w.is ∙ length-set reports n w.filled
+
+pub other_written : {n : ℕ} {report : Report} {room output : List ℕ} {reports now : List Reported} (k : ℕ) → n < k
+    → IsWrittenAt n report room output reports now → slice_get now k ≡ slice_get reports k
+other_written {n} {reports = reports} k past w =
+    ap (λ (xs : List Reported). slice_get xs k) w.is ∙ get_set_other reports n k w.filled (omega (arith, past))
 
 -- ---- on a machine
 

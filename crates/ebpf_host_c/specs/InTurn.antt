@@ -1,11 +1,12 @@
 -- Runs of one program in turn: each is on the next of the contexts, which are one after another.
-use Rattle.std.specs.Prelude.{◌≡◌, ◌*◌, ◌-◌, ℕ, zero, suc, List, length, take, drop, slice_get}
+use Rattle.std.specs.Prelude.{◌≡◌, ◌*◌, ℕ, zero, suc, List, length, slice_get}
 use Rattle.std.specs.Option.{MatchOption}
 use Rattle.ebpf_verify.specs.Subject.{Subject}
 use Rattle.ebpf_machine.specs.declared.report.Report.{Report}
 use Rattle.ebpf_machine.specs.Store.{Store}
 use Rattle.ebpf_host.specs.declared.program.Program.{Program}
 use Rattle.ebpf_host.specs.declared.stocks.Stocks.{Stocks}
+use Rattle.ebpf_host.specs.Contexts.{given_bytes, context_at}
 use Rattle.ebpf_host.specs.Finding.{IsFound}
 use Rattle.ebpf_host.specs.Leaving.{IsLeft}
 use Rattle.ebpf_host.specs.Reports.{IsReportWithin}
@@ -15,17 +16,9 @@ use Rattle.shared_store.specs.Tools.{ToolsView}
 use Rattle.ebpf_host_c.specs.declared.reported.Reported.{Reported}
 use Rattle.ebpf_host_c.specs.Reported.{IsReportWritten, IsWritten}
 
--- how many bytes of context the host gives to a run
-abbrev pub given_bytes : Program → ℕ
-given_bytes p = p.verified.decl.context - length p.data.items
-
 -- these bytes are that many contexts of a program
 abbrev pub AreContexts : Program → (count : ℕ) → (contexts : List ℕ) → Type 0
 AreContexts p count contexts = length contexts ≡ count * given_bytes p
-
--- the context with this number, from 0 on
-abbrev pub context_at : Program → (number : ℕ) → (contexts : List ℕ) → List ℕ
-context_at p number contexts = take (given_bytes p) (drop (number * given_bytes p) contexts)
 
 -- the first n runs go from one state to another: each goes on from where the one before it ended
 unfoldable pub RunsTo : {S : Type 0} → (run : (number : ℕ) → S → S → Type 0) → (n : ℕ) → (old new : S) → Type 0
@@ -50,6 +43,11 @@ IsRunAt o p contexts limit reports number before after = MatchOption (slice_get 
 -- the first n runs over a store
 abbrev pub AreRun : {S H : Type 0} → Store S H → Program → (contexts : List ℕ) → (limit n : ℕ) → List Reported → (before after : S × List ℕ) → Type 0
 AreRun o p contexts limit n reports before after = RunsTo (IsRunAt o p contexts limit reports) n before after
+
+-- where the first n were run, the first m are then
+abbrev pub AreRunFrom : {S H : Type 0} → Store S H → Program → (contexts : List ℕ) → (limit n m : ℕ) → (old new : List Reported) → (before after : S × List ℕ) → Type 0
+AreRunFrom {S} o p contexts limit n m old new before after =
+    (first : S × List ℕ) → AreRun o p contexts limit n old first before → AreRun o p contexts limit m new first after
 
 -- ---- on a machine
 

@@ -1,5 +1,5 @@
 -- What C is given.
-use Rattle.std.specs.Prelude.{◌≡◌, ℕ, Bool, true, false, ◌++◌, List, [], ◌∷◌, length, filter, Option, Some, None, is_some, unwrap_or, string_bytes}
+use Rattle.std.specs.Prelude.{◌≡◌, ℕ, Bool, true, false, ◌++◌, List, [], ◌∷◌, length, filter, Option, Some, None, is_some, unwrap_or, string_bytes, slice_set}
 use Rattle.ebpf_object_file.specs.declared.holding_line.HoldingLine.{HoldingLine}
 use Rattle.ebpf_object_file.specs.Shown.{place_row}
 use Rattle.ebpf_verify.specs.Subject.{Subject}
@@ -60,6 +60,12 @@ pub record IsWritten (r : Report) (room output : List ℕ) (filled : Reported) :
   pub refused : filled.refused ≡ length (filter is_null r.answers)
   pub fetched : filled.fetched ≡ length (filter is_fetched r.answers)
   pub missed : filled.missed ≡ length (filter is_empty r.answers)
+
+-- a report is written as the one with a number
+pub record IsWrittenAt (number : ℕ) (r : Report) (room output : List ℕ) (old new : List Reported) : Type 0 where
+  pub filled : Reported
+  pub is : new ≡ slice_set old number filled
+  pub written : IsWritten r room output filled
 
 -- a run on a machine, of which C is given the report
 pub record IsReportWritten (old new : Stocks) (s : Subject) (context : List ℕ) (limit : ℕ) (room output : List ℕ) (filled : Reported) : Type 0 where

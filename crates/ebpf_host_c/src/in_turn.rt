@@ -4,9 +4,11 @@ ghost use Rattle.std.specs.Prelude.{◌≡◌, ◌≤◌, ◌<◌, ℕ, IfOk, If
 ghost use Rattle.ebpf_machine.specs.Kinds.{known_kinds};
 ghost use Rattle.ebpf_host.specs.Finding.{TellsShelves};
 ghost use Rattle.shared_store.specs.Tools.{HoldNothing};
-ghost use Rattle.ebpf_host_c.specs.InTurn.{AreContexts, AreRun, AreRunBy, AreRunOn};
+ghost use Rattle.ebpf_host_c.specs.InTurn.{AreContexts, AreRun, AreRunBy, AreRunFrom, AreRunOn};
 
-use crate::reported::{Reported, write_report};
+use crate::by_fours::run_by_fours;
+use crate::reported::{Reported, write_at};
+use ebpf_host::contexts::context_at;
 use ebpf_host::machine::Machine;
 use ebpf_host::memory::Memory;
 use ebpf_host::program::Program;
@@ -16,8 +18,8 @@ use ebpf_machine::objects::Objects;
 use ebpf_machine::workspace::Workspace;
 use ebpf_object::Object;
 
-/// Runs a program on as many contexts as there are reports, with the objects of a store, and writes each report. The numbers of output of a
-/// run are written to `output`, over those of the run before it. Returns the memory of the runs, for the next.
+/// Runs a program on as many contexts as there are reports, from one with a number on, with the objects of a store, and writes each report. The
+/// numbers of output of a run are written to `output`, over those of the run before it. Returns the memory of the runs, for the next.
 ///
 /// # Errors
 /// A run found no memory: how many were run before it. The memory of the runs is freed then.
@@ -27,6 +29,7 @@ pub(crate) fn run_each<O: Objects>(
     contexts: &[u8],
     objects: &mut O,
     limit: u64,
+    from: usize,
     output: &mut [u64],
     reports: &mut [Reported],
 ) -> Result<Workspace<O::Held>, usize>
@@ -34,19 +37,19 @@ pub(crate) fn run_each<O: Objects>(
     requires room { (store : O) → O.store.can_give store }
     requires tells { TellsShelves O.store }
     requires contexts { AreContexts program.now (length reports.old) contexts.now }
-    ensures all { IfOk result (λ _. AreRun O.store program.now contexts.now limit (length reports.old) reports.new (objects.old, output.old) (objects.new, output.new)) }
-    ensures some { IfErr result (λ n. AreRun O.store program.now contexts.now limit n reports.new (objects.old, output.old) (objects.new, output.new)) }
+    requires from { from ≤ length reports.old }
+    ensures all { IfOk result (λ _. AreRunFrom O.store program.now contexts.now limit from (length reports.old) reports.old reports.new (objects.old, output.old) (objects.new, output.new)) }
+    ensures some { IfErr result (λ n. AreRunFrom O.store program.now contexts.now limit from n reports.old reports.new (objects.old, output.old) (objects.new, output.new)) }
     ensures outs { (k : ℕ) → O.store.outs objects.new k ≡ O.store.outs objects.old k }
-    ensures fewer { IfErr result (λ n. n < length reports.old) }
+    ensures fewer { IfErr result (λ n. (from ≤ n) × (n < length reports.old)) }
     ensures unmade { IfErr result (λ n. (k : ℕ) → n ≤ k → slice_get reports.new k ≡ slice_get reports.old k) }
 {
-    let length = program.context() as usize;
     let mut workspace = workspace;
-    'runs: for number in 0..reports.len() {
-        let context = &contexts[number * length..][..length];
+    'runs: for number in from..reports.len() {
+        let context = context_at(program, contexts, number);
         match run_within(workspace, program, context, objects, limit) {
             Ok(ended) => {
-                write_report(&ended, output, &mut reports[number]);
+                write_at(&ended, number, output, reports);
                 workspace = ended.forget();
             }
             Err(_) => return Err(number),
@@ -74,14 +77,15 @@ pub(crate) fn run_all<O: Objects<Held = Object>>(
     ensures most { result ≤ length reports.old }
     ensures unmade { (k : ℕ) → result ≤ k → slice_get reports.new k ≡ slice_get reports.old k }
 {
-    if reports.is_empty() {
-        return 0;
+    let done = run_by_fours(memory, program, contexts, objects, limit, output, reports);
+    if done == reports.len() {
+        return done;
     }
     let Ok(workspace) = memory.take() else {
-        return 0;
+        return done;
     };
     match run_each(
-        workspace, program, contexts, objects, limit, output, reports,
+        workspace, program, contexts, objects, limit, done, output, reports,
     ) {
         Ok(workspace) => {
             memory.put(workspace);

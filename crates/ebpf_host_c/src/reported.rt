@@ -1,10 +1,10 @@
 //! What C is given: why bytes are refused, and what a run did.
 
-ghost use Rattle.std.specs.Prelude.{◌≡◌, ◌≤◌, ◌++◌, ◌∷◌, [], IfSome, OnOk, OnErr, filter, is_some, length, string_bytes, unwrap_or};
+ghost use Rattle.std.specs.Prelude.{◌≡◌, ◌<◌, ◌≤◌, ◌++◌, ◌∷◌, [], IfSome, OnOk, OnErr, filter, is_some, length, string_bytes, unwrap_or};
 ghost use Rattle.ebpf_machine.specs.Whole.{is_granted, is_null, is_fetched};
 ghost use Rattle.ebpf_host_c.specs.Objects.{IsFaultReported, IsLineIn, IsLineOfFault, fault_slot};
 ghost use Rattle.ebpf_host.specs.Copying.{copied};
-ghost use Rattle.ebpf_host_c.specs.Reported.{IsReported, IsReportedWith, is_empty, line_under};
+ghost use Rattle.ebpf_host_c.specs.Reported.{IsReported, IsReportedWith, IsWrittenAt, is_empty, line_under};
 
 use ebpf_host::copying::copy;
 use ebpf_host::refusal::Refusal;
@@ -218,6 +218,19 @@ fn counts_of(replies: &[Reply]) -> Counts
         fetched,
         missed,
     }
+}
+
+/// Tells a report as the one with a number.
+pub(crate) fn write_at<H>(
+    done: &Ended<H>,
+    number: usize,
+    output: &mut [u64],
+    reports: &mut [Reported],
+)
+    requires { number < length reports.old }
+    ensures { IsWrittenAt number done.now output.old output.new reports.old reports.new }
+{
+    write_report(done, output, &mut reports[number]);
 }
 
 /// Tells a report.

@@ -3,3 +3,4 @@ pub mod Turning
 pub mod Told
 pub mod Starts
 pub mod Ends
+pub mod FourRuns

@@ -20,6 +20,7 @@ pub mod Sound
 pub mod Step
 pub mod Fixed
 pub mod Flows
+pub mod FourRuns
 pub mod Operating
 pub mod Turns
 pub mod Whole
@@ -27,3 +28,5 @@ pub mod Parts
 pub mod Parting
 pub mod Advance
 pub mod Burst
+pub mod Lanes
+pub mod Together

@@ -5,7 +5,8 @@
 //! machine that tests every access: the world of many runs, one event of it, and a run alone in a world of its own.
 //!
 //! To be read in this order: `value`, `kinds`, `context`, `objects`, `holding`, `number`, `stack`, `memory`, `registers`, `arithmetic`,
-//! `operate`, `report`, `answer`, `fixed`, `parts`, `workspace`, `ended`, `overwrite`, `helpers`, `going`, `burst`, `advance`, `run`, `whole`.
+//! `operate`, `report`, `answer`, `fixed`, `parts`, `workspace`, `ended`, `overwrite`, `helpers`, `going`, `burst`, `advance`, `run`, `whole`,
+//! `lanes`, `fours`, `together`, `four_runs`.
 #![tactic(auto)]
 
 mod advance;
@@ -15,10 +16,13 @@ mod burst;
 pub mod context;
 pub mod ended;
 mod fixed;
+pub mod four_runs;
+mod fours;
 mod going;
 mod helpers;
 pub mod holding;
 pub mod kinds;
+mod lanes;
 mod memory;
 mod number;
 pub mod objects;
@@ -29,6 +33,7 @@ mod registers;
 pub mod report;
 pub mod run;
 mod stack;
+mod together;
 pub mod value;
 pub mod whole;
 pub mod workspace;

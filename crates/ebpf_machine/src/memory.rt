@@ -72,9 +72,9 @@ fn load_bytes(bytes: &[u8], from: i64, load: Loaded) -> u64
     number_at(bytes, byte_place(from, load.offset), load.size, load.signed)
 }
 
-// The number of bytes of the context.
+/// The number of bytes of the context, at an offset from a pointer to it.
 #[inline(always)]
-fn load_context(fixed: &Fixed<'_>, from: i64, load: Loaded) -> u64
+pub(crate) fn load_context(fixed: &Fixed<'_>, from: i64, load: Loaded) -> u64
     requires few { length (context_of fixed.now) ≤ MAX_CONTEXT }
     requires loads { IsResult (found_among Trap.ContextAccess (context_of fixed.now) from load) }
     ensures { found_among Trap.ContextAccess (context_of fixed.now) from load ≡ Ok (Value.Number result) }

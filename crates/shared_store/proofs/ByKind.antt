@@ -2,6 +2,7 @@
 use Rattle.std.proofs.Common.{◌≡◌, ◌≢◌, ◌⊎◌, inl, inr, ℕ, ◌+◌, ◌==◌, if◌then◌else◌, Bool, true, false, List, [], ◌∷◌, length, Option, Some, None, refl, ap, ◌∙◌, subst, sym, rules, arith}
 use Rattle.std.proofs.lemmas.Bool.{cases_eq}
 use Rattle.std.proofs.lemmas.Bool.Decides.{nat_tests}
+use Rattle.std.specs.Prelude.{IfNone}
 use Rattle.std.specs.Option.{IfSome, IsSomeAnd, MatchOption}
 use Rattle.owners_table.specs.Owning.{Holds, without}
 use Rattle.ebpf_machine.specs.Store.{one_of, reply_to_swap}
@@ -32,6 +33,10 @@ mapped P Q R None (Some y) cases by says = absurd (is_not cases) where
   is_not e = search (rules, e)
 mapped P Q R (Some x) None cases by says = tt
 mapped P Q R (Some x) (Some y) cases by says = by x y cases says
+
+pub none_then : {X : Type 0} (P : Type 0) (o : Option X) → P → IfNone o P
+none_then P None is = is
+none_then P (Some x) is = tt
 
 -- each slot of a kind is held once at most
 pub once_at : (t : ToolsView) → AreStocks t → (kind : ℕ) → Once (held_at t kind)

@@ -1,12 +1,13 @@
 -- What calls do to a stock, whose invariant they keep.
-use Rattle.std.proofs.Common.{◌≡◌, ℕ, ◌+◌, ◌≤◌, ◌^◌, List, [], ◌∷◌, ◌++◌, Option, Some, None, IfSome, length, refl, sym, ap, ◌∙◌, subst, arith}
+use Rattle.std.proofs.Common.{◌≡◌, inl, inr, ℕ, ◌+◌, ◌≤◌, ◌^◌, List, [], ◌∷◌, ◌++◌, Option, Some, None, IfSome, length, refl, sym, ap, ◌∙◌, subst, arith}
 use Rattle.std.specs.Prelude.{option_map}
 use Rattle.std.specs.Option.{MatchOption}
 use Rattle.std.proofs.lemmas.List.{length-append}
 use Rattle.owners_table.specs.Owning.{Holds, SeatView, owner_word, without}
 use Rattle.owners_table.specs.declared.mark.Owner.{Owner}
 use Rattle.exchange_shelf.specs.Views as views
-use Rattle.shared_cache.specs.HandView.{Counts, HandView, Counted, adopts, gets_back, lends, passes_on}
+use Rattle.shared_cache.specs.HandView.{Counts, HandView, Counted, IsLaden, adopts, gets_back, lends, passes_on, refuses}
+use Rattle.shared_cache.specs.declared.fault.TakeFault.{TakeFault}
 use Rattle.ebpf_owned.specs.Claims.{lost, Once}
 use Rattle.ebpf_owned.specs.Exchanges.{less, one_if, shelved_if}
 use Rattle.ebpf_owned.proofs.Claiming.{lost_as_before, lost_one_more}
@@ -15,8 +16,9 @@ use Rattle.ebpf_owned.proofs.Holding.{length-without, once_claimed, once_release
 use Rattle.shared_row.specs.Views.{PassView}
 use Rattle.shared_store.specs.declared.commons.Commons.{Commons}
 use Rattle.shared_store.specs.Making.{IsUnused}
-use Rattle.shared_store.specs.Stock.{IsStock, StockView}
+use Rattle.shared_store.specs.Stock.{Answers, IsStock, StockView}
 use Rattle.shared_store.specs.Tools.{AreAtHome, ToolsView}
+use Rattle.shared_store.proofs.Answering.{IsRefused, exchange_answers, is_refused}
 
 module _ (s t : StockView) (i : IsStock s) (strays : t.strays ≡ s.strays) (shelf : t.shelf_hand ≡ s.shelf_hand) where
   -- an object was taken, and its slot claimed
@@ -96,6 +98,28 @@ module _ (s t : StockView) (i : IsStock s) (strays : t.strays ≡ s.strays) (she
         few = (omega (arith, allocs, i.few.0), omega (arith, adopted, i.few.1));
         part = ap (λ (v : views.HandView). v.parts) shelf ∙ i.part;
       }
+
+  -- no count of the hand changed but those of refusals
+  pub still : t.hand.counts.lent ≡ s.hand.counts.lent → t.hand.counts.frees ≡ s.hand.counts.frees → t.hand.counts.allocs ≡ s.hand.counts.allocs
+      → t.hand.counts.adopted ≡ s.hand.counts.adopted → t.hand.counts.passed ≡ s.hand.counts.passed → t.seat ≡ s.seat → t.clashes ≡ s.clashes → IsStock t
+  still lent frees allocs adopted passed seat clashes = record {
+    lent = lent ∙ i.lent ∙ sym (ap (λ (v : SeatView). length v.held) seat);
+    once = once_same s.seat.held t.seat.held (ap (λ (v : SeatView). v.held) seat) i.once;
+    even = omega (arith, lent, frees, allocs, adopted, passed, i.even);
+    shelved = (passed ∙ i.shelved.0 ∙ sym (ap (λ (v : views.HandView). v.puts) shelf), adopted ∙ i.shelved.1 ∙ sym (ap (λ (v : views.HandView). v.gets) shelf));
+    noted = ap (λ (v : SeatView). length v.notes) seat ∙ i.noted ∙ sym allocs;
+    fetched = ap (λ (v : SeatView). length v.fetches) seat ∙ i.fetched ∙ sym adopted;
+    clashed = (clashes ∙ i.clashed.0 ∙ sym (ap (λ (v : SeatView). lost v.notes) seat), omega (arith, clashes, allocs, i.clashed.1));
+    strayed = omega (arith, strays, adopted, i.strayed);
+    few = (omega (arith, allocs, i.few.0), omega (arith, adopted, i.few.1));
+    part = ap (λ (v : views.HandView). v.parts) shelf ∙ i.part;
+  }
+
+  -- none was to be had
+  pub refused : (fault : TakeFault) → t.hand.counts ≡ refuses fault s.hand.counts → t.seat ≡ s.seat → t.clashes ≡ s.clashes → IsStock t
+  refused fault counts seat clashes =
+      let is = subst (IsRefused s.hand.counts) (sym counts) (is_refused fault s.hand.counts) in
+      still is.lent is.frees is.allocs is.adopted is.passed seat clashes
 
 -- ---- exchanges
 
@@ -182,6 +206,39 @@ pub left : (given : Option ℕ) (shelf : ℕ) (s t : SeatView) → t ≡ shelved
 left None shelf s t is = record { held = ap (λ v. v.held) is; notes = ap (λ v. v.notes) is; fetches = ap (λ v. v.fetches) is }
 left (Some slot) shelf s t is = record { held = ap (λ v. v.held) is; notes = ap (λ v. v.notes) is; fetches = ap (λ v. v.fetches) is }
 
+pub left_table : (given : Option ℕ) (shelf : ℕ) (s t : SeatView) → t ≡ shelved_if s given shelf → t.table ≡ s.table
+left_table None shelf s t is = ap (λ v. v.table) is
+left_table (Some slot) shelf s t is = ap (λ v. v.table) is
+
+-- a hand that was given no object since, and refused none
+pub record IsQuiet (a b : HandView) : Type 0 where
+  pub table : b.table ≡ a.table
+  pub allocs : b.counts.allocs ≡ a.counts.allocs
+  pub nulls : b.counts.nulls ≡ a.counts.nulls
+  pub busy : b.counts.busy ≡ a.counts.busy
+
+pub quiet : {X : Type 0} (given : Option X) (a b : HandView) → MatchOption given (b ≡ a) (λ _. Counted a b (passes_on a.counts)) → IsQuiet a b
+quiet None a b same = record {
+  table = ap (λ (h : HandView). h.table) same;
+  allocs = ap (λ (h : HandView). h.counts.allocs) same;
+  nulls = ap (λ (h : HandView). h.counts.nulls) same;
+  busy = ap (λ (h : HandView). h.counts.busy) same;
+}
+quiet (Some x) a b counted = record {
+  table = counted.table;
+  allocs = ap (λ (k : Counts). k.allocs) counted.counts_are;
+  nulls = ap (λ (k : Counts). k.nulls) counted.counts_are;
+  busy = ap (λ (k : Counts). k.busy) counted.counts_are;
+}
+
+-- nor is there less room aside in it
+pub unladen : {X : Type 0} (given : Option X) (a b : HandView) → MatchOption given (b ≡ a) (λ _. Counted a b (passes_on a.counts)) → (IsLaden a → ⊥) → IsLaden b → ⊥
+unladen None a b same free laden = free (subst IsLaden same laden)
+unladen (Some x) a b counted free laden = free (elim laden [
+  | inl most ↦ inl (omega (arith, most, ap (λ (k : Counts). k.lent) counted.counts_are, ap length counted.aside))
+  | inr most ↦ inr (omega (arith, most, ap (λ (k : Counts). k.adopted) counted.counts_are))
+])
+
 -- what is held is held by a seat that is the same
 pub as_held : {X : Type 0} (slot : X → ℕ) (given : Option X) (a b : SeatView) → a ≡ b → IfSome given (λ x. Holds (slot x) b.held) → IfSome given (λ x. Holds (slot x) a.held)
 as_held slot given a b same has = subst (λ (v : SeatView). IfSome given (λ x. Holds (slot x) v.held)) (sym same) has
@@ -207,6 +264,22 @@ module _ {X : Type 0} (slot : X → ℕ) (given : Option X) (s : StockView) (i :
   once_is : Once seat.held
   once_is = once_left slot s.seat.held given seat.held has seat_is.held i.once
 
+  quiet_is : IsQuiet s.hand h
+  quiet_is = quiet given s.hand h left_hand
+
+  table_is : seat.table ≡ s.seat.table
+  table_is = left_table (option_map slot given) shelf s.seat seat left_seat
+
+  -- what was given is there
+  pub put_is : (hand old : views.HandView) (got : ℕ) → hand ≡ views.swapped s.shelf_hand one got → s.shelf_hand ≡ old → hand.puts ≡ old.puts + one_if given
+  put_is hand old got swapped same = omega (arith, ap (λ (v : views.HandView). v.puts) swapped, one_is, ap (λ (v : views.HandView). v.puts) same)
+
+  pub nothing_got_answers : (hand : views.HandView) → hand ≡ views.swapped s.shelf_hand one 0
+      → Answers s (record { hand = h; shelf_hand = hand; seat = seat; clashes = s.clashes; strays = s.strays }) 0 0 0
+  nothing_got_answers hand swapped = exchange_answers s (record { hand = h; shelf_hand = hand; seat = seat; clashes = s.clashes; strays = s.strays }) one 0 0 0 i
+      (record { hand = quiet_is.table; shelf_hand = ap (λ (v : views.HandView). v.table) swapped; seat = table_is })
+      quiet_is.allocs quiet_is.nulls quiet_is.busy refl swapped (omega arith) refl
+
   -- nothing came off the shelf
   pub nothing_got : (hand : views.HandView) → hand ≡ views.swapped s.shelf_hand one 0
       → IsStock (record { hand = h; shelf_hand = hand; seat = seat; clashes = s.clashes; strays = s.strays })
@@ -228,6 +301,21 @@ module _ {X : Type 0} (slot : X → ℕ) (given : Option X) (s : StockView) (i :
 
   module _ (t : HandView) (end : SeatView) (hand : views.HandView) (swapped : hand ≡ views.swapped s.shelf_hand one 1)
       (notes : end.notes ≡ seat.notes) (fetches : length end.fetches ≡ length seat.fetches + 1) (most : t.counts.adopted ≤ 2 ^ 56) where
+    module _ (table : t.table ≡ h.table) (end_table : end.table ≡ seat.table) where
+      pub got_answers : t.counts ≡ adopts h.counts
+          → Answers s (record { hand = t; shelf_hand = hand; seat = end; clashes = s.clashes; strays = s.strays }) 0 0 1
+      got_answers counts = exchange_answers s (record { hand = t; shelf_hand = hand; seat = end; clashes = s.clashes; strays = s.strays }) one 1 0 1 i
+          (record { hand = table ∙ quiet_is.table; shelf_hand = ap (λ (v : views.HandView). v.table) swapped; seat = end_table ∙ table_is })
+          (ap (λ (k : Counts). k.allocs) counts ∙ quiet_is.allocs) (ap (λ (k : Counts). k.nulls) counts ∙ quiet_is.nulls)
+          (ap (λ (k : Counts). k.busy) counts ∙ quiet_is.busy) refl swapped (omega arith) refl
+
+      pub strayed_answers : t.counts ≡ gets_back (adopts h.counts)
+          → Answers s (record { hand = t; shelf_hand = hand; seat = end; clashes = s.clashes; strays = s.strays + 1 }) 0 0 0
+      strayed_answers counts = exchange_answers s (record { hand = t; shelf_hand = hand; seat = end; clashes = s.clashes; strays = s.strays + 1 }) one 1 1 0 i
+          (record { hand = table ∙ quiet_is.table; shelf_hand = ap (λ (v : views.HandView). v.table) swapped; seat = end_table ∙ table_is })
+          (ap (λ (k : Counts). k.allocs) counts ∙ quiet_is.allocs) (ap (λ (k : Counts). k.nulls) counts ∙ quiet_is.nulls)
+          (ap (λ (k : Counts). k.busy) counts ∙ quiet_is.busy) refl swapped refl refl
+
     -- an object was claimed that came off it
     pub got : (at word : ℕ) → t.counts ≡ adopts h.counts → end.held ≡ (at, word) ∷ seat.held → (Holds at seat.held → ⊥)
         → IsStock (record { hand = t; shelf_hand = hand; seat = end; clashes = s.clashes; strays = s.strays })

@@ -4,7 +4,7 @@
 //! ending its store brings them back, on whatever thread. So no two workers ever have the same tools, and closing waits for nobody: it takes
 //! what is at home, and where something is missing it puts all of it back.
 
-ghost use Rattle.std.specs.Prelude.{◌≡◌, ◌+◌, ◌<◌, ◌≤◌, List, [], length, vec_capacity, IfOk, IfErr, OnOk, IsTrue};
+ghost use Rattle.std.specs.Prelude.{◌≡◌, ◌+◌, ◌<◌, ◌≤◌, All, List, [], length, vec_capacity, vec_len, IfOk, IfErr, OnOk, IsTrue};
 ghost use Rattle.std.specs.Arc.{arc_value};
 ghost use Rattle.shared_store.specs.Making.{IsMade};
 ghost use Rattle.shared_store.specs.Closing.{AreTotals};
@@ -13,7 +13,8 @@ ghost use Rattle.shared_store.specs.Tools.{AreAtHome, HoldNothing, ToolsView};
 
 use crate::calling_in::{called_in, sent_back};
 use crate::closing::closed;
-use crate::house::{Home, House};
+use crate::commons::Commons;
+use crate::house::{Home, Homes, House};
 use crate::opening::made;
 use crate::room::Room;
 use crate::store::{OpenFault, Store};
@@ -56,21 +57,8 @@ impl Keeper {
         requires { (0 < workers) × (workers ≤ 64) }
         ensures { IfOk result (λ k. k.workers ≡ workers) }
     {
-        let (commons, mut sets) = made(alloc, arena, workers + 1)?;
-        let room = Room::new(alloc, workers + 1)?;
-        let tools = Vec::with_capacity(alloc, workers as usize + 1)?;
-        let homes = Vec::with_capacity(alloc, workers as usize)?;
-        let own = sets.take_last();
-        let Ok(row) = LendingRow::new(alloc, sets, &commons) else {
-            return Err(AllocError);
-        };
-        let house = Arc::new(
-            alloc,
-            House {
-                commons,
-                homes: row,
-            },
-        )?;
+        let (house, own) = housed(alloc, arena, workers)?;
+        let (room, tools, homes) = lists(alloc, workers)?;
         Ok(Keeper {
             house,
             own,
@@ -140,6 +128,44 @@ impl Keeper {
             }
         }
     }
+}
+
+// What this many workers share, with the tools of each at home, and a set of tools more.
+fn housed(alloc: Global, arena: Arena, workers: u32) -> Result<(Arc<House>, Tools), AllocError>
+    requires { (0 < workers) × (workers ≤ 64) }
+    ensures own { IfOk result (λ r. AreAtHome (arc_value r.0).commons r.1) }
+    ensures made { IfOk result (λ r. IsMade (workers + 1) (arc_value r.0).commons) }
+    ensures places { IfOk result (λ r. (arc_value r.0).homes.places ≡ workers) }
+{
+    let (commons, mut sets) = made(alloc, arena, workers + 1)?;
+    let own = sets.take_last();
+    let homes = homes(alloc, sets, &commons)?;
+    let house = Arc::new(alloc, House { commons, homes })?;
+    Ok((house, own))
+}
+
+// A place for each of these tools, with the tools there.
+fn homes(alloc: Global, sets: Vec<Tools>, commons: &Commons) -> Result<Homes, AllocError>
+    requires { All (AreAtHome commons.now) sets.items }
+    ensures { IfOk result (λ h. (h.places ≡ vec_len sets) × (h.key ≡ commons.now)) }
+{
+    match LendingRow::new(alloc, sets, commons) {
+        Ok(row) => Ok(row),
+        Err(_) => Err(AllocError),
+    }
+}
+
+// What closing fills: room for the parts of all tools, for the tools themselves, and for the loans of those of workers.
+fn lists(alloc: Global, workers: u32) -> Result<(Room, Vec<Tools>, Vec<Home>), AllocError>
+    requires few { workers ≤ 64 }
+    ensures room { IfOk result (λ r. HasRoom (workers + 1) r.0) }
+    ensures tools { IfOk result (λ r. (r.1.items ≡ []) × (workers + 1 ≤ vec_capacity r.1)) }
+    ensures homes { IfOk result (λ r. (r.2.items ≡ []) × (workers ≤ vec_capacity r.2)) }
+{
+    let room = Room::new(alloc, workers + 1)?;
+    let tools = Vec::with_capacity(alloc, workers as usize + 1)?;
+    let homes = Vec::with_capacity(alloc, workers as usize)?;
+    Ok((room, tools, homes))
 }
 
 // The house, if all tools are at home and no worker shares it any more.

@@ -1,6 +1,6 @@
 //! What is made for workers: the caches, the shelves, the table of owners, and tools for each worker.
 
-ghost use Rattle.std.specs.Prelude.{◌≡◌, ◌+◌, ◌<◌, ◌≤◌, All, vec_len, IfOk};
+ghost use Rattle.std.specs.Prelude.{◌≡◌, ◌+◌, ◌*◌, ◌<◌, ◌≤◌, All, vec_len, IfOk};
 ghost use Rattle.exchange_shelf.specs.Views.{fresh_hand as fresh_shelf_hand};
 ghost use Rattle.owners_table.specs.Owning.{fresh as fresh_seat};
 ghost use Rattle.shared_cache.specs.HandView.{fresh_hand};
@@ -86,7 +86,49 @@ fn assembled(
     Ok(all)
 }
 
-/// All that this many sets of tools need, and the tools.
+// An arena and a table of owners for this many sets of tools, with a pass for each, and three seats.
+fn based(
+    alloc: Global,
+    arena: Arena,
+    sets: u32,
+) -> Result<(Base, Vec<ArenaPass>, Vec<OwnerSeat>), AllocError>
+    requires { (0 < sets) × (sets ≤ MAX_HANDS) }
+    ensures made { IfOk result (λ r. (r.0.arena.passes ≡ sets) × (r.0.owners.seats ≡ 3 * sets)) }
+    ensures passes { IfOk result (λ r. (vec_len r.1 ≡ sets) × All (λ p. p ≡ fresh_pass r.0.arena.table) r.1.items) }
+    ensures seats { IfOk result (λ r. (vec_len r.2 ≡ 3 * sets) × All (λ s. s ≡ fresh_seat r.0.owners.table) r.2.items) }
+{
+    let (arena, passes) = SharedArena::new(alloc, arena, sets)?;
+    let (owners, seats) = Owners::of_arena(alloc, 3 * sets)?;
+    let base = Base {
+        alloc,
+        arena,
+        owners,
+    };
+    Ok((base, passes, seats))
+}
+
+// What this many sets of tools need of one kind, and a stock for each, with a seat of its own.
+fn furnished<K: Kind>(
+    alloc: Global,
+    owners: &Owners,
+    sets: u32,
+    seats: &mut Vec<OwnerSeat>,
+) -> Result<(Supply<K>, Vec<Stock<K>>), AllocError>
+    requires sets { (0 < sets) × (sets ≤ MAX_HANDS) }
+    requires seats { All (λ s. s ≡ fresh_seat owners.now.table) seats.old.items }
+    requires enough { sets ≤ vec_len seats.old }
+    ensures made { IfOk result (λ r. HasHands sets r.0) }
+    ensures stocks { IfOk result (λ r. (vec_len r.1 ≡ sets) × All (IsUnused r.0 owners.now) r.1.items) }
+    ensures seats { All (λ s. s ≡ fresh_seat owners.now.table) seats.new.items }
+    ensures rest { IfOk result (λ r. vec_len seats.new + sets ≡ vec_len seats.old) }
+{
+    let (supply, hands) = supplied(alloc, sets)?;
+    let stocks = stocked(alloc, &supply, owners, hands, seats)?;
+    Ok((supply, stocks))
+}
+
+/// All that this many sets of tools need, and the tools. What can fail is in few steps, since each of them is a way out that drops all that was
+/// made before it, and the proof follows each way.
 ///
 /// # Errors
 /// There was no memory: nothing was made, and the arena is gone.
@@ -99,25 +141,16 @@ pub(crate) fn made(
     ensures made { IfOk result (λ r. IsMade sets r.0) }
     ensures tools { IfOk result (λ r. (vec_len r.1 ≡ sets) × All (AreAtHome r.0) r.1.items) }
 {
-    let (arena, passes) = SharedArena::new(alloc, arena, sets)?;
-    let (owners, mut seats) = Owners::of_arena(alloc, 3 * sets)?;
-    let (cells, cell_hands) = supplied(alloc, sets)?;
-    let (records, record_hands) = supplied(alloc, sets)?;
-    let (blocks, block_hands) = supplied(alloc, sets)?;
+    let (base, passes, mut seats) = based(alloc, arena, sets)?;
+    let (cells, of_cells) = furnished(alloc, &base.owners, sets, &mut seats)?;
+    let (records, of_records) = furnished(alloc, &base.owners, sets, &mut seats)?;
+    let (blocks, of_blocks) = furnished(alloc, &base.owners, sets, &mut seats)?;
     let commons = Commons {
-        base: Base {
-            alloc,
-            arena,
-            owners,
-        },
+        base,
         cells,
         records,
         blocks,
     };
-    let owners = &commons.base.owners;
-    let cells = stocked(alloc, &commons.cells, owners, cell_hands, &mut seats)?;
-    let records = stocked(alloc, &commons.records, owners, record_hands, &mut seats)?;
-    let blocks = stocked(alloc, &commons.blocks, owners, block_hands, &mut seats)?;
-    let tools = assembled(alloc, &commons, passes, cells, records, blocks)?;
+    let tools = assembled(alloc, &commons, passes, of_cells, of_records, of_blocks)?;
     Ok((commons, tools))
 }

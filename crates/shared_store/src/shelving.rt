@@ -7,7 +7,7 @@ ghost use Rattle.ebpf_machine.specs.Kinds.{known_kinds};
 ghost use Rattle.ebpf_machine.specs.World.{image_at};
 ghost use Rattle.ebpf_object.specs.KindName.{number_of};
 ghost use Rattle.shared_store.specs.Putting.{HasPut, HoldAsMuch};
-ghost use Rattle.shared_store.specs.Tools.{AreOf, HaveAnswered};
+ghost use Rattle.shared_store.specs.Tools.{AreOf, HaveAnswered, puts_at};
 
 use crate::commons::Commons;
 use crate::store::Store;
@@ -21,6 +21,7 @@ impl Tools {
         requires of { AreOf commons.now self.old }
         requires fits { length bytes.now ≤ length (image_at known_kinds (number_of kind)) }
         ensures put { IfSome result (HasPut self.old self.new kind) }
+        ensures none { IfNone result ((k : ℕ) → puts_at self.new k ≡ puts_at self.old k) }
         ensures of { AreOf commons.now self.new }
         ensures held { HoldAsMuch self.old self.new }
     {
@@ -47,6 +48,7 @@ impl Store {
     pub fn put(&mut self, kind: KindName, bytes: &[u8]) -> Option<bool>
         requires { length bytes.now ≤ length (image_at known_kinds (number_of kind)) }
         ensures put { IfSome result (HasPut self.old.tools self.new.tools kind) }
+        ensures none { IfNone result ((k : ℕ) → puts_at self.new.tools k ≡ puts_at self.old.tools k) }
         ensures held { HoldAsMuch self.old.tools self.new.tools }
     {
         let mark = Mark {

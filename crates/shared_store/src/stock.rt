@@ -21,7 +21,7 @@ ghost use Rattle.ebpf_owned.specs.Claims.{IsClaimed};
 ghost use Rattle.ebpf_owned.specs.Exchanges.{HasPassed, less, one_if, shelved_if};
 ghost use Rattle.owners_table.specs.Owning.{fresh as fresh_seat};
 ghost use Rattle.exchange_shelf.specs.Views.{fresh_hand as fresh_shelf_hand};
-ghost use Rattle.shared_cache.specs.HandView.{Counted, IsLaden, adopts, fresh_hand, gets_back, passes_on};
+ghost use Rattle.shared_cache.specs.HandView.{Counted, HasNone, IsLaden, adopts, fresh_hand, gets_back, passes_on};
 ghost use Rattle.shared_store.specs.Stock.{Answers, IsOf, IsStock, none_if};
 
 use crate::commons::{Base, Supply};
@@ -190,6 +190,17 @@ impl<K: Kind> Stock<K> {
     {
         let (hand, arena) = (&mut self.hand, &base.arena);
         supply.cache.reap(hand, arena, pages, PAUSES)
+    }
+
+    /// Sends what the hand has home to the slabs. The answer is whether nothing stays: what another thread is in the way of does.
+    pub fn flush(&mut self, supply: &Supply<K>) -> bool
+        requires of { self.old.hand.table ≡ supply.now.cache.table }
+        ensures none { IsTrue result → HasNone self.new.hand }
+        ensures hand { (self.new.hand.table ≡ self.old.hand.table) × (self.new.hand.counts ≡ self.old.hand.counts) }
+        ensures rest { (self.new.shelf_hand ≡ self.old.shelf_hand) × (self.new.seat ≡ self.old.seat)
+            × (self.new.clashes ≡ self.old.clashes) × (self.new.strays ≡ self.old.strays) }
+    {
+        self.hand.flush(&supply.cache, PAUSES)
     }
 
     /// Whether there is room for an object that comes off the shelf. What the hand has is sent home to make some.

@@ -87,18 +87,20 @@ impl Store {
         self.tools.can_get(&self.house.commons, kind)
     }
 
-    /// Ends a store that holds nothing. Its tools are at home then, for the next that opens a worker of this number.
+    /// Ends a store that holds nothing. Its tools are at home then, for the next that opens a worker of this number. What they kept goes back to the
+    /// caches first, but for objects of kinds whose slabs another thread has for too long.
     pub fn end(self)
         requires { HoldNothing self.tools }
     {
         let Store {
             before: _,
             house,
-            tools,
+            mut tools,
             home,
             worker: _,
             after: _,
         } = self;
+        let _is_empty = tools.flush(&house.commons);
         house.homes.put(home, tools);
     }
 }

@@ -12,7 +12,7 @@ ghost use Rattle.ebpf_owned.specs.Claims.{IsClaimed};
 ghost use Rattle.ebpf_owned.specs.Exchanges.{HasPassed, one_if};
 ghost use Rattle.shared_store.specs.Stock.{none_if};
 ghost use Rattle.shared_store.specs.Tools.{AreAtHome, AreOf, AreStocks, HaveAnswered, Replies, held_at, puts_at, stock_at};
-ghost use Rattle.shared_cache.specs.HandView.{IsLaden};
+ghost use Rattle.shared_cache.specs.HandView.{HasNone, IsLaden};
 ghost use Rattle.ebpf_object.specs.KindName.{number_of};
 
 use crate::commons::Commons;
@@ -166,6 +166,19 @@ impl Tools {
             KindName::Record => self.records.can_get(&commons.records),
             KindName::Block => self.blocks.can_get(&commons.blocks),
         }
+    }
+
+    /// Sends what the hands have home to the slabs, by tools that hold nothing. The answer is whether nothing stays: what another thread is in the way
+    /// of does.
+    pub(crate) fn flush(&mut self, commons: &Commons) -> bool
+        requires { AreAtHome commons.now self.old }
+        ensures home { AreAtHome commons.now self.new }
+        ensures none { IsTrue result → HasNone self.new.cells.hand × HasNone self.new.records.hand × HasNone self.new.blocks.hand }
+    {
+        let of_cells = self.cells.flush(&commons.cells);
+        let of_records = self.records.flush(&commons.records);
+        let of_blocks = self.blocks.flush(&commons.blocks);
+        of_cells && of_records && of_blocks
     }
 
     /// A pass of the reaper over the cache of each kind, by tools that hold nothing. The answer is how many pages went back to the arena.

@@ -63,6 +63,14 @@ fn is_nothing(rt: &impl Abort, found: Option<Object>) {
     }
 }
 
+// That a thread has ended its worker.
+fn is_empty(rt: &impl Abort, place: Option<Store>) {
+    match place {
+        Some(_) => panic!(rt; "the worker is ended"),
+        None => {}
+    }
+}
+
 // That all workers are open.
 fn are_open(rt: &impl Abort, keeper: &Keeper) {
     match keeper.open() {
@@ -137,7 +145,7 @@ fn a_host_without_a_page_leaves_nothing(rt: HostRuntime) {
     holds(&rt, store.put(KindName::Block, &[1]).is_none());
     is_nothing(&rt, store.take(2, 0));
     store.give(0, object);
-    // The page is that of the cells until the worker's hand and the keeper send them home.
+    // The page is that of the cells until the worker's hand sends them home and the keeper reaps.
     store.end();
     let _ = keeper.reap();
     let [cells, _, blocks] = closed(&rt, keeper).kinds;
@@ -224,6 +232,46 @@ fn a_worker_outlives_its_keeper(rt: HostRuntime) {
     let object = taken(&rt, &mut store, 0);
     is_nothing(&rt, store.swap(0, Some(object), 0));
     store.end();
+}
+
+// Takes a hundred objects of each kind, and gives all of them back.
+fn hundreds(rt: &impl Abort, alloc: Global, store: &mut Store) {
+    let Ok(mut out) = Vec::with_capacity(alloc, 100) else {
+        panic!(rt; "no memory");
+    };
+    for kind in 0..3 {
+        for _ in 0..100 {
+            out.push_reserved(taken(rt, store, kind));
+        }
+        while let Some(object) = out.pop() {
+            store.give(kind, object);
+        }
+    }
+    out.destroy_empty();
+}
+
+#[test]
+fn a_worker_that_ends_keeps_no_page(rt: HostRuntime) -> Result<(), AllocError> {
+    let alloc = rt.alloc();
+    let mut places = Vec::with_capacity(alloc, 2)?;
+    let mut keeper = keeper(&rt, alloc, 16, 1);
+    places.push_reserved(None);
+    places.push_reserved(Some(opened(&rt, &keeper)));
+    for_each_mut(&rt, places.as_mut_slice(), 2, &|_, place| {
+        if let Some(mut store) = place.take() {
+            hundreds(&rt, alloc, &mut store);
+            store.end();
+        }
+    });
+    while let Some(place) = places.pop() {
+        is_empty(&rt, place);
+    }
+    places.destroy_empty();
+    // A hundred cells were on one page, as many records on two, and as many blocks on thirteen.
+    holds(&rt, keeper.reap() == 16 && keeper.reap() == 0);
+    let [cells, records, blocks] = closed(&rt, keeper).kinds;
+    holds(&rt, cells.allocs == 100 && records.allocs == 100 && blocks.allocs == 100);
+    Ok(())
 }
 
 #[test]

@@ -1,13 +1,6 @@
 use Rattle.std.proofs.Common.{◌∙◌, sym, arith}
 use Rattle.std.proofs.lemmas.Option.{slice_get_past}
-use Rattle.ebpf_host_c.proofs.InTurn.{none_run}
 use Rattle.ebpf_host_c.proofs.in_turn.run_all.Goals as goal
-
-pub returns-then-is_empty-clause-ran : goal.returns-then-is_empty-clause-ran
-returns-then-is_empty-clause-ran g c = none_run _ _
-
-pub returns-in_default-clause-ran : goal.returns-in_default-clause-ran
-returns-in_default-clause-ran g c = none_run _ _
 
 pub returns-in-Ok-run_each-clause-unmade : goal.returns-in-Ok-run_each-clause-unmade
 returns-in-Ok-run_each-clause-unmade g c = λ k past.

@@ -1,4 +1,4 @@
-use Rattle.std.proofs.Common.{◌≡◌, ◌+◌, ◌==◌, if◌then◌else◌, ℕ, Some, None, length, refl, ap, sym, subst, arith}
+use Rattle.std.proofs.Common.{◌≡◌, ◌+◌, ◌==◌, if◌then◌else◌, ℕ, Some, None, length, refl, ap, sym, subst, ◌∙◌, arith}
 use Rattle.ebpf_object.specs.Object.{kind_of, slot_of}
 use Rattle.ebpf_owned.proofs.Exchanging.{held_got}
 use Rattle.owners_table.specs.Owning.{Holds}
@@ -7,11 +7,17 @@ use Rattle.ebpf_object.specs.KindName.{number_of}
 use Rattle.ebpf_owned.specs.Exchanges.{less}
 use Rattle.shared_cache.specs.HandView.{IsLaden}
 use Rattle.shared_store.specs.Tools.{held_at, puts_at, stock_at}
-use Rattle.shared_store.proofs.ByKind.{answered_then, returned_counted, swapped_counted, taken_counted}
+use Rattle.shared_store.proofs.ByKind.{answered_then, none_then, returned_counted, swapped_counted, taken_counted}
 use Rattle.shared_store.proofs.tools.Tools.put.Goals as goal
 
 pub returns-in_err-object-clause-of : goal.returns-in_err-object-clause-of
 returns-in_err-object-clause-of c = c.take.ensures.replies.answered.of c.args.commons.now c.requires.of
+
+pub returns-in_err-object-clause-none : goal.returns-in_err-object-clause-none
+returns-in_err-object-clause-none c = none_then ((k : ℕ) → puts_at c.take.new.self k ≡ puts_at c.args.self.now k) c.from_residual.result c.take.ensures.puts
+
+pub returns-then-not-can_get-clause-none : goal.returns-then-not-can_get-clause-none
+returns-then-not-can_get-clause-none c = λ k. c.give.ensures.puts k ∙ c.can_get.ensures.puts k ∙ c.take.ensures.puts k
 
 pub can_get-requires : goal.can_get-requires
 can_get-requires c = record { of = c.take.ensures.replies.answered.of c.args.commons.now c.requires.of }
