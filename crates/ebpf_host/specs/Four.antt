@@ -1,13 +1,10 @@
 -- Four runs of one program, in turn over a store.
-use Rattle.std.specs.Prelude.{◌≡◌, ◌≤◌, ◌+◌, ℕ, List}
+use Rattle.std.specs.Prelude.{◌≡◌, ◌+◌, ℕ, List}
 use Rattle.ebpf_verify.specs.Subject.{Subject}
 use Rattle.ebpf_machine.specs.declared.four_runs.FourRuns.{FourRuns}
 use Rattle.ebpf_machine.specs.declared.report.Report.{Report}
-use Rattle.ebpf_machine.specs.RunState.{RunState, first_state_of, seen}
-use Rattle.ebpf_machine.specs.Sound.{IsSound, IsAlone}
-use Rattle.ebpf_machine.specs.Step.{seen_in}
-use Rattle.ebpf_machine.specs.Store.{Store, AreOut}
-use Rattle.ebpf_machine.specs.Turns.{AreTurns}
+use Rattle.ebpf_machine.specs.Store.{Store}
+use Rattle.ebpf_fours.specs.Beginning.{IsAtStart}
 use Rattle.ebpf_host.specs.declared.four_within.FourEnded.{FourEnded}
 use Rattle.ebpf_host.specs.declared.program.Program.{Program}
 use Rattle.ebpf_host.specs.Contexts.{context_at}
@@ -15,21 +12,6 @@ use Rattle.ebpf_host.specs.Finding.{IsFound}
 use Rattle.ebpf_host.specs.Leaving.{IsLeft}
 use Rattle.ebpf_host.specs.Reports.{IsReportWithin}
 use Rattle.ebpf_host.specs.Whole.{whole}
-
--- a run at its first instruction
-pub record IsAtStart {H : Type 0} (s : Subject) (context : List ℕ) (r : RunState H) : Type 0 where
-  pub first : r ≡ first_state_of s context
-  pub sound : (bytes : H → List ℕ) → IsSound (seen bytes r)
-
--- a run came here from its first instruction, within a limit, and left this state of its store as it was
-pub record HasBegun {S H : Type 0} (o : Store S H) (limit : ℕ) (r : RunState H) (s : S) : Type 0 where
-  pub number : ℕ
-  pub few : number ≤ limit
-  pub executed : r.executed ≡ number
-  pub sound : (bytes : H → List ℕ) → IsSound (seen bytes (first_state_of r.subject r.context))
-  pub turns : AreTurns o number (first_state_of r.subject r.context) r s s
-  pub out : AreOut o s r.held
-  pub alone : IsAlone (seen_in o s r)
 
 -- a run over a store within a limit, from its first instruction to its end
 pub record IsEndedWithin {S H : Type 0} (o : Store S H) (limit : ℕ) (s : Subject) (context : List ℕ) (r : Report) (old new : S) : Type 0 where

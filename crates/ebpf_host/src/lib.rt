@@ -12,7 +12,7 @@
 //! nothing after a run, and when all are closed, all that they took came back. It rests on this: the stores of machines and of workers
 //! keep the laws of `Objects` of ebpf_machine.
 //!
-//! To be read in this order: `refusal`, `program`, `unrolled`, `copying`, `stock`, `stocks`, `store`, `contexts`, `within`, `four_within`, `memory`, `machine`,
+//! To be read in this order: `refusal`, `program`, `unrolled`, `copying`, `stock`, `stocks`, `store`, `contexts`, `within`, `four_within`, `machine`,
 //! `shelving`, `worker`, `shared`, `worker_shelving`.
 #![tactic(auto)]
 
@@ -20,7 +20,6 @@ pub mod contexts;
 pub mod copying;
 pub mod four_within;
 pub mod machine;
-pub mod memory;
 pub mod program;
 pub mod refusal;
 pub mod shared;

@@ -9,11 +9,11 @@ ghost use Rattle.ebpf_host.specs.Reports.{IsReportWithin};
 ghost use Rattle.ebpf_host.specs.Stocks.{stock_of};
 ghost use Rattle.ebpf_host.specs.Whole.{whole};
 
-use crate::memory::Memory;
 use crate::program::Program;
 use crate::stock::Counts;
 use crate::stocks::{Stocks, WORDS_APART};
 use crate::within::run_within;
+use ebpf_fours::memory::Memory;
 use ebpf_machine::ended::Ended;
 use ebpf_machine::report::Report;
 use ebpf_machine::run::StartFault;
@@ -31,7 +31,7 @@ pub struct Machine {
     /// The objects, as the store of runs by [`run_within`].
     pub stocks: Box<Stocks>,
     /// The memory of runs.
-    pub memory: Memory,
+    pub memory: Memory<Object>,
     after: [u64; WORDS_APART],
 }
 

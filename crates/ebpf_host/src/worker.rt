@@ -7,10 +7,10 @@ ghost use Rattle.ebpf_host.specs.Whole.{whole};
 ghost use Rattle.shared_store.specs.Going.{GoesBy};
 ghost use Rattle.shared_store.specs.Tools.{HoldNothing};
 
-use crate::memory::Memory;
 use crate::program::Program;
 use crate::stocks::WORDS_APART;
 use crate::within::run_within;
+use ebpf_fours::memory::Memory;
 use ebpf_machine::ended::Ended;
 use ebpf_machine::report::Report;
 use ebpf_machine::run::StartFault;
@@ -29,7 +29,7 @@ pub struct Worker {
     /// Where its objects come from, as the store of runs by [`run_within`].
     pub store: Box<Store>,
     /// The memory of its runs.
-    pub memory: Memory,
+    pub memory: Memory<Object>,
     after: [u64; WORDS_APART],
 }
 

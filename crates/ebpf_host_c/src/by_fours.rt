@@ -6,23 +6,20 @@ ghost use Rattle.ebpf_host.specs.Finding.{TellsShelves};
 ghost use Rattle.ebpf_host_c.specs.InTurn.{AreContexts, AreRun};
 
 use crate::reported::{Reported, write_at};
+use ebpf_fours::memory::Memory;
+use ebpf_fours::starting::LONG;
 use ebpf_host::four_within::run_four_within;
-use ebpf_host::memory::Memory;
 use ebpf_host::program::Program;
 use ebpf_insn::program::MAX_SLOTS;
 use ebpf_machine::objects::Objects;
 use ebpf_object::Object;
-
-/// How many instructions a program has at least for its runs to go on together. What is saved is that the processor guesses once for four where the
-/// next instruction's code is, which it guesses well in a shorter program.
-const LONG: usize = 1_024;
 
 /// Runs a program on the first of these contexts, four at a time, with the objects of a store, and writes each report: all but the last ones
 /// that are fewer than four; none of a short program, or within a limit that may end a run. Returns how many were run.
 ///
 /// Where there is no memory for four, they are left, too: one may find enough.
 pub(crate) fn run_by_fours<O: Objects<Held = Object>>(
-    memory: &mut Memory,
+    memory: &mut Memory<Object>,
     program: &Program,
     contexts: &[u8],
     objects: &mut O,

@@ -8,9 +8,9 @@ ghost use Rattle.ebpf_host_c.specs.InTurn.{AreContexts, AreRun, AreRunBy, AreRun
 
 use crate::by_fours::run_by_fours;
 use crate::reported::{Reported, write_at};
+use ebpf_fours::memory::Memory;
 use ebpf_host::contexts::context_at;
 use ebpf_host::machine::Machine;
-use ebpf_host::memory::Memory;
 use ebpf_host::program::Program;
 use ebpf_host::within::run_within;
 use ebpf_host::worker::Worker;
@@ -60,7 +60,7 @@ pub(crate) fn run_each<O: Objects>(
 
 /// Does the same in memory that is kept from one run to the next. Returns how many were run: all, or those before one that found no memory.
 pub(crate) fn run_all<O: Objects<Held = Object>>(
-    memory: &mut Memory,
+    memory: &mut Memory<Object>,
     program: &Program,
     contexts: &[u8],
     objects: &mut O,

@@ -1,5 +1,6 @@
 use Rattle.std.proofs.Common.{refl, sym, ◌∙◌}
-use Rattle.ebpf_host.proofs.Beginning.{start_beside, start_goes, kinds_on, begun_on, ended_on}
+use Rattle.ebpf_fours.proofs.Beginning.{start_beside, start_goes, kinds_on, begun_on}
+use Rattle.ebpf_host.proofs.Beginning.{ended_on}
 use Rattle.ebpf_host.proofs.four_within.run_four_within.Goals as goal
 
 pub go_together-one-requires-clause-side : goal.go_together-one-requires-clause-side

@@ -3,7 +3,8 @@ use Rattle.ebpf_machine.specs.RunState.{RunState}
 use Rattle.ebpf_machine.specs.World.{kinds_of}
 use Rattle.ebpf_host.specs.Four.{IsEndedWithin}
 use Rattle.ebpf_host.specs.Whole.{whole}
-use Rattle.ebpf_host.proofs.Beginning.{begun_at, ended_as}
+use Rattle.ebpf_fours.proofs.Beginning.{begun_at}
+use Rattle.ebpf_host.proofs.Beginning.{ended_as}
 use Rattle.ebpf_host.proofs.within.run_within.Given.{Over}
 use Rattle.ebpf_host.proofs.within.run_within.Goals.{After-end_within}
 use Rattle.ebpf_host.proofs.within.run_within.Goals as goal
