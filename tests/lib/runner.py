@@ -49,7 +49,7 @@ TESTS = [
     *[script(name, True) for name in ('command-line', 'docs', 'commands', 'literals', 'json', 'examples', 'steps', 'graph', 'lay-out', 'compiled', 'loops', 'tables', 'object-files', 'script-of', 'jobs-of', 'orders', 'tallies', 'covered', 'streams', 'stream')],
     script('want-of-memory'),
     *[script(name, True) for name in ('large-inputs', 'worst', 'fuzz', 'stats', 'run-many')],
-    script('host'), script('install'), script('unproved'), script('first-call'), script('benches'), script('reading-list'), script('recipes'),
+    script('host'), script('install'), script('bindings'), script('unproved'), script('first-call'), script('benches'), script('reading-list'), script('recipes'),
 ]
 
 
