@@ -112,3 +112,24 @@ fn many_workers_report_as_the_programs_alone(rt: HostRuntime) -> Result<(), Allo
     }
     Ok(())
 }
+
+// Jobs of a long program in a row, which go four together, by themselves and among others; each report is compared with its program run
+// alone, which has what others left on the shelf.
+#[test]
+fn jobs_that_go_together_report_as_the_programs_alone(rt: HostRuntime) -> Result<(), AllocError> {
+    for letters in ["p", "ppppa", "ppapppppe"] {
+        for workers in [1, 3] {
+            let setting = Setting {
+                workers,
+                pages: 16,
+                reaps: 3,
+                claimed: 0,
+                count: 2_000,
+                letters,
+            };
+            let programs = programs_of(rt.alloc())?;
+            let _ = done(&rt, rt.alloc(), programs, &setting, &NoGate)?;
+        }
+    }
+    Ok(())
+}
