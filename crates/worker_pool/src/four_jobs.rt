@@ -101,36 +101,18 @@ pub(crate) fn answer_four<'a, L: Names, G: Gate + 'a, R: Wait + 'a>(
     begin(shared, number, store);
     let ended = exit_in_place(one, store);
     let one = keep(shared, number, verified, ended, &mut spares.one, reports);
-    begin(shared, number + 1, store);
+    let next = number + 1;
+    begin(shared, next, store);
     let ended = exit_in_place(two, store);
-    let two = keep(
-        shared,
-        number + 1,
-        verified,
-        ended,
-        &mut spares.two,
-        reports,
-    );
-    begin(shared, number + 2, store);
+    let two = keep(shared, next, verified, ended, &mut spares.two, reports);
+    let next = number + 2;
+    begin(shared, next, store);
     let ended = exit_in_place(three, store);
-    let three = keep(
-        shared,
-        number + 2,
-        verified,
-        ended,
-        &mut spares.three,
-        reports,
-    );
-    begin(shared, number + 3, store);
+    let three = keep(shared, next, verified, ended, &mut spares.three, reports);
+    let next = number + 3;
+    begin(shared, next, store);
     let ended = exit_in_place(four, store);
-    let four = keep(
-        shared,
-        number + 3,
-        verified,
-        ended,
-        &mut spares.four,
-        reports,
-    );
+    let four = keep(shared, next, verified, ended, &mut spares.four, reports);
     memory.put_four(FourWorkspaces {
         one,
         two,
