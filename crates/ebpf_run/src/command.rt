@@ -1,5 +1,6 @@
 //! The command line.
 
+use crate::context::with_context;
 use crate::format::{format_of, json_option};
 use crate::input::{elf_option, function_option, input_of, lines_option, raw_option};
 use clap::{Arg, ArgAction, ArgMatches, Command, value_parser};
@@ -142,30 +143,21 @@ pub struct RunOptions {
 
 /// The commands with their options.
 pub fn command<'a>(alloc: Global) -> Result<Command<'a>, AllocError> {
-    let one = one_command(alloc)?;
-    let list = list_command(alloc)?;
-    let explain = explain_command(alloc)?;
-    let graph = graph_command(alloc)?;
-    let lay_out = lay_out_command(alloc)?;
-    let unroll = unroll_command(alloc)?;
-    let assemble = assemble_command(alloc)?;
-    let check = check_command(alloc)?;
-    let replay = replay_command(alloc)?;
     let all = Command::new(alloc, "ebpf_run")
         .about("Runs small eBPF programs")
         .version("0.1.0")
         .after_help(ONE_EXAMPLE)
         .subcommand_required(true)
-        .arg_required_else_help(true)
-        .subcommand(one)?;
-    all.subcommand(list)?
-        .subcommand(explain)?
-        .subcommand(graph)?
-        .subcommand(lay_out)?
-        .subcommand(unroll)?
-        .subcommand(assemble)?
-        .subcommand(check)?
-        .subcommand(replay)?
+        .arg_required_else_help(true);
+    all.subcommand(one_command(alloc)?)?
+        .subcommand(list_command(alloc)?)?
+        .subcommand(explain_command(alloc)?)?
+        .subcommand(graph_command(alloc)?)?
+        .subcommand(lay_out_command(alloc)?)?
+        .subcommand(unroll_command(alloc)?)?
+        .subcommand(assemble_command(alloc)?)?
+        .subcommand(check_command(alloc)?)?
+        .subcommand(replay_command(alloc)?)?
         .subcommand(run_command(alloc)?)?
         .subcommand(stream_command(alloc)?)
 }
@@ -210,7 +202,7 @@ fn states_option<'a>(alloc: Global) -> Arg<'a> {
 
 // With a program, and what it is judged by.
 fn with_judged_program<'a>(alloc: Global, command: Command<'a>) -> Result<Command<'a>, AllocError> {
-    let command = command.arg(context_option(alloc))?.arg(held_option(alloc))?;
+    let command = with_context(alloc, command)?.arg(held_option(alloc))?;
     with_program(alloc, command)
 }
 
@@ -227,14 +219,6 @@ fn file_argument<'a>(alloc: Global) -> Arg<'a> {
     Arg::new(alloc, "file")
         .value_name("FILE")
         .help("The file to read; standard input if it is - or not given")
-}
-
-fn context_option<'a>(alloc: Global) -> Arg<'a> {
-    Arg::new(alloc, "context")
-        .long("context")
-        .value_name("HEX")
-        .default_value("-")
-        .help("The context as hex digits, or - for none")
 }
 
 fn held_option<'a>(alloc: Global) -> Arg<'a> {
@@ -377,24 +361,25 @@ fn covered_option<'a>(alloc: Global) -> Arg<'a> {
         .help("Writes how often each instruction was executed, and each branch taken")
 }
 
-/// What the words of the command line ask for, where they are a command.
-pub fn request_of<'a>(matches: &ArgMatches<'a>) -> Option<Request<'a>> {
+/// What the words of the command line ask for, where they are a command; of one program, on the context of this text, which may be made
+/// after these words were read.
+pub fn request_of<'c, 'a: 'c>(matches: &ArgMatches<'a>, context: &'c str) -> Option<Request<'c>> {
     let (name, given) = matches.subcommand()?;
     Some(Request {
-        task: task_of(name, given)?,
+        task: task_of(name, given, context)?,
         file: file_of(name, given),
     })
 }
 
 // The command of this name, with the options that are given.
-fn task_of<'a>(name: &str, given: &ArgMatches<'a>) -> Option<Task<'a>> {
+fn task_of<'c, 'a: 'c>(name: &str, given: &ArgMatches<'a>, context: &'c str) -> Option<Task<'c>> {
     match name {
-        "one" => Some(Task::One(one_options(given))),
+        "one" => Some(Task::One(one_options(given, context))),
         "list" => Some(Task::List(list_options(given))),
-        "explain" => Some(Task::Explain(explain_options(given))),
-        "graph" => Some(Task::Graph(graph_options(given))),
-        "lay-out" => Some(Task::LayOut(asked(given, format_of(given)))),
-        "unroll" => Some(Task::Unroll(asked(given, format_of(given)))),
+        "explain" => Some(Task::Explain(explain_options(given, context))),
+        "graph" => Some(Task::Graph(graph_options(given, context))),
+        "lay-out" => Some(Task::LayOut(asked(given, context, format_of(given)))),
+        "unroll" => Some(Task::Unroll(asked(given, context, format_of(given)))),
         "assemble" => Some(Task::Assemble),
         "check" => Some(Task::Check(check_options(given))),
         "replay" => Some(Task::Replay(format_of(given))),
@@ -416,37 +401,37 @@ fn file_of<'a>(name: &str, given: &ArgMatches<'a>) -> Option<&'a str> {
 }
 
 // A program, and how it is judged and answered.
-fn asked<'a>(given: &ArgMatches<'a>, format: Format) -> Ask<'a> {
+fn asked<'c, 'a: 'c>(given: &ArgMatches<'a>, context: &'c str, format: Format) -> Ask<'c> {
     Ask {
         input: input_of(given),
         format,
-        context: given.get_str("context").unwrap_or("-"),
+        context,
         held: given.get_one::<u8>("held").unwrap_or(0),
     }
 }
 
 // The options of `one`.
-fn one_options<'a>(given: &ArgMatches<'a>) -> OneOptions<'a> {
+fn one_options<'c, 'a: 'c>(given: &ArgMatches<'a>, context: &'c str) -> OneOptions<'c> {
     OneOptions {
-        ask: asked(given, format_of(given)),
+        ask: asked(given, context, format_of(given)),
         nulls: given.get_flag("nulls"),
         unroll: given.get_flag("unroll"),
     }
 }
 
 // The options of `explain`.
-fn explain_options<'a>(given: &ArgMatches<'a>) -> ExplainOptions<'a> {
+fn explain_options<'c, 'a: 'c>(given: &ArgMatches<'a>, context: &'c str) -> ExplainOptions<'c> {
     ExplainOptions {
-        ask: asked(given, format_of(given)),
+        ask: asked(given, context, format_of(given)),
         lines: given.get_flag("source"),
         unroll: given.get_flag("unroll"),
     }
 }
 
 // The options of `graph`.
-fn graph_options<'a>(given: &ArgMatches<'a>) -> GraphOptions<'a> {
+fn graph_options<'c, 'a: 'c>(given: &ArgMatches<'a>, context: &'c str) -> GraphOptions<'c> {
     GraphOptions {
-        ask: asked(given, Format::Text),
+        ask: asked(given, context, Format::Text),
         states: given.get_flag("states"),
         unroll: given.get_flag("unroll"),
     }

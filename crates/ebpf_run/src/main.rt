@@ -1,10 +1,11 @@
 //! Runs small eBPF programs from the command line.
 //!
-//! This crate reads the command line, opens the file that is named and has the standard streams. What a command writes is a function of
-//! what it reads and of its options, errors included, and it writes nothing else. That is the contract of [`one`] and [`list`], which
-//! read hex and write plain text; of [`ebpf_one::one::one`], [`ebpf_one::list::list`], [`ebpf_show::explain::explain`],
-//! [`ebpf_show::graph::graph`] and [`ebpf_one::lay_out::lay_out`]; of [`ebpf_assemble::assemble::assemble`],
-//! [`ebpf_script::check_script::check_script`] and [`ebpf_script::replay_script::replay_script`].
+//! This crate reads the command line, opens the files that are named and has the standard streams. A context that is a file's bytes, or
+//! that zeros follow, is made a text of hex first: [`ebpf_context::text`]. What a command writes is a function of what it reads and of its
+//! options, errors included, and it writes nothing else. That is the contract of [`one`] and [`list`], which read hex and write plain text;
+//! of [`ebpf_one::one::one`], [`ebpf_one::list::list`], [`ebpf_show::explain::explain`], [`ebpf_show::graph::graph`] and
+//! [`ebpf_one::lay_out::lay_out`]; of [`ebpf_assemble::assemble::assemble`], [`ebpf_script::check_script::check_script`] and
+//! [`ebpf_script::replay_script::replay_script`].
 //!
 //! Where loops are unrolled, what is said of a loop that can't be is not promised word for word: [`ebpf_one::unroll::unroll`],
 //! [`ebpf_one::unroll::one_unrolled`], [`ebpf_show::explain::explain_unrolled`] and [`ebpf_show::graph::graph_unrolled`].
@@ -15,19 +16,22 @@
 #![tactic(auto)]
 
 mod command;
+mod context;
 mod format;
 mod input;
 mod plain;
 mod programs;
 
 use crate::command::{Request, RunOptions, Task, command, request_of};
+use crate::context::{Context, context_of};
 pub use crate::plain::{list, one};
 use crate::programs::{perform_explain, perform_graph, perform_list, perform_one};
-use clap::Error;
 use clap::error::ErrorKind;
+use clap::{ArgMatches, Error};
 use ebpf_assemble::assemble::assemble;
 use ebpf_command::done::{Done, EngineFault};
 use ebpf_command::input::MAX_INPUT;
+use ebpf_context::text::{fill_context, read_context};
 use ebpf_one::lay_out::lay_out;
 use ebpf_one::unroll::unroll;
 use ebpf_report::meter::{Meter, MissMeter};
@@ -53,6 +57,15 @@ const MISTAKEN: u8 = 2;
 
 // What is read of a script that is too long: one byte more than one may have.
 const MOST_READ: u64 = MAX_INPUT as u64 + 1;
+
+// Why a command line is refused.
+const NOT_UTF8: &str = "invalid UTF-8 was detected in one or more arguments";
+
+const INPUT_TWICE: &str =
+    "the context and the program can't both be read from standard input: name a file for one of them";
+
+const TOO_MANY_BYTES: &str =
+    "the context has more bytes than '--context-at-most <N>' declares: give a greater N, or fewer bytes";
 
 fn main(rt: HostRuntime) -> ExitCode {
     match run(&rt) {
@@ -81,7 +94,47 @@ fn run<R: AllocGlobal + Clock + Env + Eprint + Files + Input + Print + Threads +
         Ok(matches) => matches,
         Err(error) => return tell(rt, &error),
     };
-    match request_of(&matches) {
+    answer(rt, &matches)
+}
+
+// Does what the command line asks for, on the context that it says, and gives the exit status.
+fn answer<R: AllocGlobal + Clock + Eprint + Files + Input + Print + Threads + Wait + Sync>(
+    rt: &R,
+    matches: &ArgMatches<'_>,
+) -> Result<u8, EngineFault> {
+    match context_of(matches) {
+        Context::Hex(text) => answer_on(rt, matches, Some(text)),
+        Context::Filled(text, declared) => {
+            let made = fill_context(rt.alloc(), text, declared)?;
+            answer_on(rt, matches, made.as_deref())
+        }
+        Context::File(path, declared) => match open(rt, path) {
+            Ok(file) => {
+                let mut file = file;
+                let made = read_context(rt.alloc(), &mut file, declared)?;
+                answer_on(rt, matches, made.as_deref())
+            }
+            Err(error) => tell_unopened(rt, path, &error),
+        },
+        Context::Input(declared) => {
+            let made = read_context(rt.alloc(), &mut rt.reader(), declared)?;
+            answer_on(rt, matches, made.as_deref())
+        }
+        Context::InputOfProgram => tell_mistaken(rt, ErrorKind::ArgumentConflict, INPUT_TWICE),
+    }
+}
+
+// Does what the command line asks for, on this text of a context, and gives the exit status. There is no text where more bytes are given
+// than are declared.
+fn answer_on<R: AllocGlobal + Clock + Eprint + Files + Input + Print + Threads + Wait + Sync>(
+    rt: &R,
+    matches: &ArgMatches<'_>,
+    context: Option<&str>,
+) -> Result<u8, EngineFault> {
+    let Some(context) = context else {
+        return tell_mistaken(rt, ErrorKind::ValueValidation, TOO_MANY_BYTES);
+    };
+    match request_of(matches, context) {
         Some(request) => serve(rt, request),
         None => Ok(MISTAKEN),
     }
@@ -218,15 +271,21 @@ fn tell_unread<R: AllocGlobal + Eprint + Print>(
     if kind != io::ErrorKind::InvalidData {
         return Err(EngineFault::NoMemory);
     }
+    tell_mistaken(rt, ErrorKind::ValueValidation, NOT_UTF8)
+}
+
+// Prints why the command line is refused, and gives the exit status.
+fn tell_mistaken<R: AllocGlobal + Eprint + Print>(
+    rt: &R,
+    kind: ErrorKind,
+    why: &str,
+) -> Result<u8, EngineFault> {
     let mut commands = command(rt.alloc())?;
-    let error = commands.error(
-        ErrorKind::ValueValidation,
-        "invalid UTF-8 was detected in one or more arguments",
-    )?;
+    let error = commands.error(kind, why)?;
     tell(rt, &error)
 }
 
-// Prints why the command line is refused, or the help that it asks for, and gives the exit status.
+// Prints what clap says of the command line, the help too that it asks for, and gives the exit status.
 fn tell<R: Eprint + Print>(rt: &R, error: &Error) -> Result<u8, EngineFault> {
     if error.kind() == ErrorKind::OutOfMemory {
         return Err(EngineFault::NoMemory);
