@@ -1,5 +1,5 @@
 -- What one of four jobs that went together was answered.
-use Rattle.std.proofs.Common.{◌≡◌, ◌++◌, ◌∷◌, ℕ, List, [], sym, subst, ◌∙◌}
+use Rattle.std.proofs.Common.{◌≡◌, ◌++◌, ◌∷◌, ℕ, List, [], ap, subst, ◌∙◌}
 use Rattle.std.proofs.lemmas.List.{append-nil}
 use Rattle.ebpf_fours.specs.Beginning.{IsAtStart}
 use Rattle.ebpf_fours.proofs.Beginning.{report_on}
@@ -14,6 +14,11 @@ use Rattle.worker_pool.specs.declared.hands.Tools.{Tools}
 use Rattle.worker_pool.specs.Fours.{IsOn}
 use Rattle.worker_pool.specs.Going.{GoesBy, IsAnswered}
 use Rattle.worker_pool.proofs.Answering.{goes_from}
+
+-- a run that went on with others is of its program
+pub program_on : {S H : Type 0} {o : Store S H} {subject : Subject} {context : List ℕ} {r t : RunState H} → IsAtStart subject context r
+    → HasGoneOn o r t → t.subject ≡ subject
+program_on {H = H} at gone = gone.same.0 ∙ ap (λ (x : RunState H). x.subject) at.first
 
 pub one_answered : {L S H : Type 0} {o : Store S H} {programs : List Subject} {jobs : List Job} {number : ℕ} {subject : Subject} {context : List ℕ}
     {r t : RunState H} {report : Report} {before begun after : Tools L} {old new : List Report}

@@ -5,6 +5,7 @@ pub mod Counts
 pub mod Crews
 pub mod Going
 pub mod Fours
+pub mod Ending
 pub mod Hands
 pub mod Moves
 pub mod Numbering

@@ -3,13 +3,13 @@
 //! It runs the program of each over its store, and keeps the reports in their order. Four neighbours that run one long program go on
 //! together as far as they do the same.
 
-ghost use Rattle.std.specs.Prelude.{◌≡◌, ◌≤◌, ◌<◌, ◌+◌, ◌-◌, ◌*◌, ◌++◌, ◌∷◌, [], ℕ, List, length, true, is_some, vec_len, vec_capacity, IfOk, OnOk, OnErr};
-ghost use Rattle.ebpf_machine.specs.Whole.{IsReportOf};
+ghost use Rattle.std.specs.Prelude.{◌≡◌, ◌≤◌, ◌<◌, ◌+◌, ◌-◌, ◌*◌, [], length, vec_len, vec_capacity, IfOk, OnOk, OnErr};
 ghost use Rattle.worker_pool.specs.EachKind.{hands_of, IsEven};
 ghost use Rattle.worker_pool.specs.Going.{AreAnswered, HasAnsweredOn, IsAnswered, IsUnanswered, tools_of};
 ghost use Rattle.worker_pool.specs.Numbering.{bundles_in, many_in};
 ghost use Rattle.worker_pool.specs.Working.{AreReady};
 
+use crate::ending::end_job;
 use crate::four_jobs::{answer_four, four_at};
 use crate::gate::{Gate, Point};
 use crate::ledgers::Names;
@@ -17,12 +17,9 @@ use crate::spares::{Spares, have};
 use crate::store::Store;
 use crate::worker::Shared;
 use ebpf_fours::memory::Memory;
-use ebpf_machine::ended::Ended;
-use ebpf_machine::whole::run_in_place;
-use ebpf_machine::workspace::Workspace;
+use ebpf_machine::run::Run;
 use ebpf_owned::Owned;
-use ebpf_verify::verified::Verified;
-use job_list::{JobReport, Rest};
+use job_list::JobReport;
 use std::alloc::AllocError;
 use std::sync::Wait;
 
@@ -108,12 +105,13 @@ fn answer<'a, L: Names, G: Gate + 'a, R: Wait + 'a>(
     let job = shared.jobs.job(number as usize);
     have(shared.alloc, &mut spares.one)?;
     let workspace = memory.take()?;
-    begin(shared, number, store);
     let verified = &shared.programs[job.program];
-    let Ok(ended) = run_in_place(workspace, verified, job.context, store) else {
+    let Ok(run) = Run::start_in(workspace, verified, job.context) else {
         return Err(AllocError);
     };
-    let workspace = keep(shared, number, verified, ended, &mut spares.one, reports);
+    begin(shared, number, store);
+    let workspace = end_job(run, verified, store, &mut spares.one, reports);
+    shared.gate.at(number, Point::Answered);
     memory.put(workspace);
     Ok(())
 }
@@ -131,28 +129,4 @@ pub(crate) fn begin<'a, L: Names, G: Gate + 'a, R: Wait + 'a>(
 {
     shared.gate.at(number, Point::Begin);
     store.client.job = number as u32;
-}
-
-/// Keeps the report of a run that has ended, with the spare box where its lists need one, and returns the memory of the run.
-#[inline(always)]
-pub(crate) fn keep<'a, L: Names, G: Gate + 'a, R: Wait + 'a>(
-    shared: &Shared<'a, L, G, R>,
-    number: u64,
-    verified: &Verified,
-    ended: Ended<Owned>,
-    spare: &mut Option<Box<Rest>>,
-    reports: &mut Vec<JobReport>,
-) -> Workspace<Owned>
-    requires spare { is_some spare.old ≡ true }
-    requires report { (context : List ℕ) × IsReportOf verified.now context ended }
-    requires room { vec_len reports.old < vec_capacity reports.old }
-    ensures kept { reports.new.items ≡ reports.old.items ++ ended ∷ [] }
-    ensures capacity { vec_capacity reports.new ≡ vec_capacity reports.old }
-{
-    // Read for what they promise: a report's numbers are small.
-    let _ = (verified.program().len(), verified.decl());
-    let (report, workspace) = JobReport::of(ended, spare);
-    reports.push_reserved(report);
-    shared.gate.at(number, Point::Answered);
-    workspace
 }

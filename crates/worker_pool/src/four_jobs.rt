@@ -6,15 +6,15 @@ ghost use Rattle.worker_pool.specs.Fours.{AreFourAnswered, AreOn};
 ghost use Rattle.worker_pool.specs.Going.{IsUnanswered, tools_of};
 ghost use Rattle.worker_pool.specs.Working.{AreReady};
 
-use crate::bundle::{begin, keep};
-use crate::gate::Gate;
+use crate::bundle::begin;
+use crate::ending::end_job;
+use crate::gate::{Gate, Point};
 use crate::ledgers::Names;
 use crate::spares::Spares;
 use crate::store::Store;
 use crate::worker::Shared;
 use ebpf_fours::memory::Memory;
 use ebpf_fours::starting::{FourContexts, LONG, start_four};
-use ebpf_fours::whole::exit_in_place;
 use ebpf_fours::workspaces::FourWorkspaces;
 use ebpf_machine::four_runs::{FourRuns, go_together};
 use ebpf_owned::Owned;
@@ -99,20 +99,20 @@ pub(crate) fn answer_four<'a, L: Names, G: Gate + 'a, R: Wait + 'a>(
         four,
     } = go_together(runs, &*store);
     begin(shared, number, store);
-    let ended = exit_in_place(one, store);
-    let one = keep(shared, number, verified, ended, &mut spares.one, reports);
+    let one = end_job(one, verified, store, &mut spares.one, reports);
+    shared.gate.at(number, Point::Answered);
     let next = number + 1;
     begin(shared, next, store);
-    let ended = exit_in_place(two, store);
-    let two = keep(shared, next, verified, ended, &mut spares.two, reports);
+    let two = end_job(two, verified, store, &mut spares.two, reports);
+    shared.gate.at(next, Point::Answered);
     let next = number + 2;
     begin(shared, next, store);
-    let ended = exit_in_place(three, store);
-    let three = keep(shared, next, verified, ended, &mut spares.three, reports);
+    let three = end_job(three, verified, store, &mut spares.three, reports);
+    shared.gate.at(next, Point::Answered);
     let next = number + 3;
     begin(shared, next, store);
-    let ended = exit_in_place(four, store);
-    let four = keep(shared, next, verified, ended, &mut spares.four, reports);
+    let four = end_job(four, verified, store, &mut spares.four, reports);
+    shared.gate.at(next, Point::Answered);
     memory.put_four(FourWorkspaces {
         one,
         two,

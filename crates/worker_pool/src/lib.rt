@@ -20,7 +20,7 @@
 //! job is in one bundle.
 //!
 //! To be read in this order: `ledgers`, `hands`, `supply`, `count`, `client`, `stock`, `each_kind`, `store`,
-//! `answered`, `gate`, `spares`, `four_jobs`, `bundle`, `worker`, `beside`, `crew`, `outcome`, `admission`, `setup`, `place`, `pool`, `plain_jobs`.
+//! `answered`, `gate`, `spares`, `ending`, `four_jobs`, `bundle`, `worker`, `beside`, `crew`, `outcome`, `admission`, `setup`, `place`, `pool`, `plain_jobs`.
 #![tactic(auto)]
 
 mod admission;
@@ -31,6 +31,7 @@ mod client;
 mod count;
 mod crew;
 mod each_kind;
+mod ending;
 mod four_jobs;
 mod gate;
 mod hands;

@@ -1,9 +1,9 @@
 use Rattle.std.proofs.Common.{refl, arith}
-use Rattle.ebpf_fours.proofs.Beginning.{start_beside, start_goes, kinds_on, begun_on, report_on}
+use Rattle.ebpf_fours.proofs.Beginning.{start_beside, start_goes, kinds_on, begun_on}
 use Rattle.worker_pool.specs.Going.{none_answered}
 use Rattle.worker_pool.proofs.Answering.{still_even}
 use Rattle.worker_pool.proofs.EachKind.{evens}
-use Rattle.worker_pool.proofs.Fours.{one_answered}
+use Rattle.worker_pool.proofs.Fours.{one_answered, program_on}
 use Rattle.worker_pool.proofs.four_jobs.answer_four.Goals as goal
 
 pub returns-in_default-clause-failed : goal.returns-in_default-clause-failed
@@ -25,52 +25,52 @@ go_together-one-requires-clause-can g c =
       four = start_goes c.args.store.now kinds s.four;
     }
 
-pub exit_in_place-ended-requires-clause-kinds : goal.exit_in_place-ended-requires-clause-kinds
-exit_in_place-ended-requires-clause-kinds g c = kinds_on c.requires.jobs.kinds c.in-Ok.ensures.one c.go_together-one.ensures.one
+pub end_job-one-requires-clause-kinds : goal.end_job-one-requires-clause-kinds
+end_job-one-requires-clause-kinds g c = kinds_on c.requires.jobs.kinds c.in-Ok.ensures.one c.go_together-one.ensures.one
 
-pub exit_in_place-ended-requires-clause-begun : goal.exit_in_place-ended-requires-clause-begun
-exit_in_place-ended-requires-clause-begun g c =
+pub end_job-one-requires-clause-begun : goal.end_job-one-requires-clause-begun
+end_job-one-requires-clause-begun g c =
     begun_on 4096 c.begin.new.store c.requires.jobs.kinds (omega arith) c.in-Ok.ensures.one c.go_together-one.ensures.one
 
-pub keep-one-requires-clause-report : goal.keep-one-requires-clause-report
-keep-one-requires-clause-report g c = (_, report_on c.in-Ok.ensures.one c.go_together-one.ensures.one c.exit_in_place-ended.ensures.report)
+pub end_job-one-requires-clause-program : goal.end_job-one-requires-clause-program
+end_job-one-requires-clause-program g c = program_on c.in-Ok.ensures.one c.go_together-one.ensures.one
 
-pub exit_in_place-ended-requires-2-clause-kinds : goal.exit_in_place-ended-requires-2-clause-kinds
-exit_in_place-ended-requires-2-clause-kinds g c = kinds_on c.requires.jobs.kinds c.in-Ok.ensures.two c.go_together-one.ensures.two
+pub end_job-two-requires-clause-kinds : goal.end_job-two-requires-clause-kinds
+end_job-two-requires-clause-kinds g c = kinds_on c.requires.jobs.kinds c.in-Ok.ensures.two c.go_together-one.ensures.two
 
-pub exit_in_place-ended-requires-2-clause-begun : goal.exit_in_place-ended-requires-2-clause-begun
-exit_in_place-ended-requires-2-clause-begun g c =
+pub end_job-two-requires-clause-begun : goal.end_job-two-requires-clause-begun
+end_job-two-requires-clause-begun g c =
     begun_on 4096 c.begin-2.new.store c.requires.jobs.kinds (omega arith) c.in-Ok.ensures.two c.go_together-one.ensures.two
 
-pub keep-two-requires-clause-report : goal.keep-two-requires-clause-report
-keep-two-requires-clause-report g c = (_, report_on c.in-Ok.ensures.two c.go_together-one.ensures.two c.exit_in_place-ended-2.ensures.report)
+pub end_job-two-requires-clause-program : goal.end_job-two-requires-clause-program
+end_job-two-requires-clause-program g c = program_on c.in-Ok.ensures.two c.go_together-one.ensures.two
 
-pub exit_in_place-ended-requires-3-clause-kinds : goal.exit_in_place-ended-requires-3-clause-kinds
-exit_in_place-ended-requires-3-clause-kinds g c = kinds_on c.requires.jobs.kinds c.in-Ok.ensures.three c.go_together-one.ensures.three
+pub end_job-three-requires-clause-kinds : goal.end_job-three-requires-clause-kinds
+end_job-three-requires-clause-kinds g c = kinds_on c.requires.jobs.kinds c.in-Ok.ensures.three c.go_together-one.ensures.three
 
-pub exit_in_place-ended-requires-3-clause-begun : goal.exit_in_place-ended-requires-3-clause-begun
-exit_in_place-ended-requires-3-clause-begun g c =
+pub end_job-three-requires-clause-begun : goal.end_job-three-requires-clause-begun
+end_job-three-requires-clause-begun g c =
     begun_on 4096 c.begin-3.new.store c.requires.jobs.kinds (omega arith) c.in-Ok.ensures.three c.go_together-one.ensures.three
 
-pub keep-three-requires-clause-report : goal.keep-three-requires-clause-report
-keep-three-requires-clause-report g c = (_, report_on c.in-Ok.ensures.three c.go_together-one.ensures.three c.exit_in_place-ended-3.ensures.report)
+pub end_job-three-requires-clause-program : goal.end_job-three-requires-clause-program
+end_job-three-requires-clause-program g c = program_on c.in-Ok.ensures.three c.go_together-one.ensures.three
 
-pub exit_in_place-ended-requires-4-clause-kinds : goal.exit_in_place-ended-requires-4-clause-kinds
-exit_in_place-ended-requires-4-clause-kinds g c = kinds_on c.requires.jobs.kinds c.in-Ok.ensures.four c.go_together-one.ensures.four
+pub end_job-four-requires-clause-kinds : goal.end_job-four-requires-clause-kinds
+end_job-four-requires-clause-kinds g c = kinds_on c.requires.jobs.kinds c.in-Ok.ensures.four c.go_together-one.ensures.four
 
-pub exit_in_place-ended-requires-4-clause-begun : goal.exit_in_place-ended-requires-4-clause-begun
-exit_in_place-ended-requires-4-clause-begun g c =
+pub end_job-four-requires-clause-begun : goal.end_job-four-requires-clause-begun
+end_job-four-requires-clause-begun g c =
     begun_on 4096 c.begin-4.new.store c.requires.jobs.kinds (omega arith) c.in-Ok.ensures.four c.go_together-one.ensures.four
 
-pub keep-four-requires-clause-report : goal.keep-four-requires-clause-report
-keep-four-requires-clause-report g c = (_, report_on c.in-Ok.ensures.four c.go_together-one.ensures.four c.exit_in_place-ended-4.ensures.report)
+pub end_job-four-requires-clause-program : goal.end_job-four-requires-clause-program
+end_job-four-requires-clause-program g c = program_on c.in-Ok.ensures.four c.go_together-one.ensures.four
 
 pub returns-clause-even : goal.returns-clause-even
 returns-clause-even g c =
-    let one = evens c.begin.new.store.stocks c.exit_in_place-ended.new.objects.stocks c.exit_in_place-ended.ensures.outs (still_even c.begin.ensures c.requires.even) in
-    let two = evens c.begin-2.new.store.stocks c.exit_in_place-ended-2.new.objects.stocks c.exit_in_place-ended-2.ensures.outs (still_even c.begin-2.ensures one) in
-    let three = evens c.begin-3.new.store.stocks c.exit_in_place-ended-3.new.objects.stocks c.exit_in_place-ended-3.ensures.outs (still_even c.begin-3.ensures two) in
-    evens c.begin-4.new.store.stocks c.exit_in_place-ended-4.new.objects.stocks c.exit_in_place-ended-4.ensures.outs (still_even c.begin-4.ensures three)
+    let one = evens c.begin.new.store.stocks c.end_job-one.new.objects.stocks c.end_job-one.ensures.outs (still_even c.begin.ensures c.requires.even) in
+    let two = evens c.begin-2.new.store.stocks c.end_job-two.new.objects.stocks c.end_job-two.ensures.outs (still_even c.begin-2.ensures one) in
+    let three = evens c.begin-3.new.store.stocks c.end_job-three.new.objects.stocks c.end_job-three.ensures.outs (still_even c.begin-3.ensures two) in
+    evens c.begin-4.new.store.stocks c.end_job-four.new.objects.stocks c.end_job-four.ensures.outs (still_even c.begin-4.ensures three)
 
 pub returns-clause-answered : goal.returns-clause-answered
 returns-clause-answered g c =
@@ -83,8 +83,8 @@ returns-clause-answered g c =
       with_one = _;
       with_two = _;
       with_three = _;
-      one = one_answered j.one s.one t.one c.begin.ensures c.exit_in_place-ended.ensures.report c.keep-one.ensures.kept c.exit_in_place-ended.ensures.goes;
-      two = one_answered j.two s.two t.two c.begin-2.ensures c.exit_in_place-ended-2.ensures.report c.keep-two.ensures.kept c.exit_in_place-ended-2.ensures.goes;
-      three = one_answered j.three s.three t.three c.begin-3.ensures c.exit_in_place-ended-3.ensures.report c.keep-three.ensures.kept c.exit_in_place-ended-3.ensures.goes;
-      four = one_answered j.four s.four t.four c.begin-4.ensures c.exit_in_place-ended-4.ensures.report c.keep-four.ensures.kept c.exit_in_place-ended-4.ensures.goes;
+      one = one_answered j.one s.one t.one c.begin.ensures c.end_job-one.ensures.ended.report c.end_job-one.ensures.ended.kept c.end_job-one.ensures.ended.goes;
+      two = one_answered j.two s.two t.two c.begin-2.ensures c.end_job-two.ensures.ended.report c.end_job-two.ensures.ended.kept c.end_job-two.ensures.ended.goes;
+      three = one_answered j.three s.three t.three c.begin-3.ensures c.end_job-three.ensures.ended.report c.end_job-three.ensures.ended.kept c.end_job-three.ensures.ended.goes;
+      four = one_answered j.four s.four t.four c.begin-4.ensures c.end_job-four.ensures.ended.report c.end_job-four.ensures.ended.kept c.end_job-four.ensures.ended.goes;
     }
