@@ -76,7 +76,7 @@ fn four_runs_go_on_together_up_to_where_they_part(rt: HostRuntime) {
 fn four_runs_start_in_their_memory(rt: HostRuntime) {
     let (programs, _) = read(&rt, rt.alloc(), DOUBLED);
     let verified = programs.first().expect(&rt, "there is a program");
-    let mut memory = Memory::new(rt.alloc());
+    let mut memory: Memory<Object> = Memory::new(rt.alloc());
     let workspaces = memory.take_four().expect(&rt, "there is memory");
     let contexts = FourContexts {
         one: &[1],
