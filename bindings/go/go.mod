@@ -1,0 +1,3 @@
+module cikpodun.example/ebpfhost
+
+go 1.19
