@@ -1,8 +1,9 @@
 //! The text of a context.
 
-ghost use Rattle.std.specs.Prelude.{◌≡◌, IfOk, IfSome, Some, option_map, string_bytes};
+ghost use Rattle.std.specs.Prelude.{◌≡◌, ◌≢◌, IfOk, IfErr, IfSome, Some, option_map, string_bytes};
 ghost use Rattle.hex.specs.Hex.{encode_lower};
 ghost use Rattle.ebpf_command.specs.HexText.{hex_or_dash};
+ghost use Rattle.ebpf_command.specs.declared.done.EngineFault.TheVariants.{Output};
 ghost use Rattle.ebpf_context.specs.ContextText.{context_of, text_of, text_of_text, text_of_input};
 
 use ebpf_command::done::EngineFault;
@@ -34,7 +35,8 @@ pub fn read_context<R: Read>(
     reader: &mut R,
     declared: Option<u32>,
 ) -> Result<Option<String>, EngineFault>
-    ensures { IfOk result (λ text. IfSome (R.remaining reader.old) (λ input. option_map string_bytes text ≡ text_of_input input declared)) }
+    ensures read { IfOk result (λ text. IfSome (R.remaining reader.old) (λ input. option_map string_bytes text ≡ text_of_input input declared)) }
+    ensures err { IfErr result (λ e. e ≢ Output) }
 {
     let most = u64::from(declared.unwrap_or(MAX_CONTEXT));
     let mut given = Vec::new(alloc);
@@ -75,7 +77,9 @@ fn hex_text(alloc: Global, bytes: &[u8]) -> Result<String, AllocError>
 }
 
 // Why an input isn't read.
-fn fault_of(error: &io::Error) -> EngineFault {
+fn fault_of(error: &io::Error) -> EngineFault
+    ensures { result ≢ Output }
+{
     if error.kind() == io::ErrorKind::OutOfMemory {
         EngineFault::NoMemory
     } else {

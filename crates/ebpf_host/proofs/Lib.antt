@@ -5,3 +5,4 @@ pub mod Leaving
 pub mod Finding
 pub mod Forwarding
 pub mod Beginning
+pub mod OnContexts

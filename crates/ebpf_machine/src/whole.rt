@@ -19,6 +19,7 @@ use ebpf_verify::verified::Verified;
 /// # Errors
 /// As [`Run::start`]: `ContextLength` if the context doesn't have the declared length; `NoMemory` if an allocation of the run failed. The
 /// memory is freed then. A store that has no memory answers null.
+#[inline(always)]
 pub fn run_in_place<O: Objects>(
     workspace: Workspace<O::Held>,
     verified: &Verified,

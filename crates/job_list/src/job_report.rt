@@ -100,6 +100,7 @@ impl Model for JobReport {
 
 impl JobReport {
     /// The report of a run that has ended, and the memory of that run. It takes the spare box where its lists need one.
+    #[inline(always)]
     pub fn of<H>(ended: Ended<H>, spare: &mut Option<Box<Rest>>) -> (JobReport, Workspace<H>)
         requires spare { is_some spare.old ≡ true }
         requires executed { ended.executed < 65536 }
@@ -196,6 +197,7 @@ impl JobReport {
 }
 
 // These numbers beside the rest of a run that has ended, in the spare box where its lists need one, and the memory of that run.
+#[inline(always)]
 fn rest_kept<H>(
     numbers: Numbers,
     ended: Ended<H>,

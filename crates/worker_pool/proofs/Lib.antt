@@ -3,6 +3,7 @@ pub mod Flat
 pub mod NumberingLemmas
 pub mod Sums
 pub mod Answering
+pub mod Fours
 pub mod Passing
 pub mod Pairs
 pub mod Returning

@@ -66,6 +66,12 @@ module _ {L : Type 0} where
     pub good : All (Answers programs jobs) (numbered first reports)
     pub goes : HasAnsweredAll before (numbered first reports) after
 
+  -- whichever jobs in a row were answered up to this number, what was done since belongs to them: reports more or none
+  abbrev pub HasAnsweredOn : (programs : List Subject) (jobs : List Job) (number : ℕ) (before after : Tools L) (old new : List Report) → Type 0
+  HasAnsweredOn programs jobs number before after old new =
+      (first : ℕ) (start : Tools L) → number ≡ first + length old → AreAnswered programs jobs first start before old
+      → AreAnswered programs jobs first start after new
+
   -- no report more, and nothing that a call was granted, refused or fetched
   abbrev pub IsUnanswered : (before after : Tools L) → (old new : List Report) → Type 0
   IsUnanswered before after old new = (new ≡ old) × GoesBy before [] after

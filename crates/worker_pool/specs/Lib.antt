@@ -4,6 +4,8 @@ pub mod Books
 pub mod Counts
 pub mod Crews
 pub mod Going
+pub mod Fours
+pub mod Ending
 pub mod Hands
 pub mod Moves
 pub mod Numbering

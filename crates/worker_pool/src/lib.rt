@@ -20,16 +20,19 @@
 //! job is in one bundle.
 //!
 //! To be read in this order: `ledgers`, `hands`, `supply`, `count`, `client`, `stock`, `each_kind`, `store`,
-//! `answered`, `gate`, `worker`, `beside`, `crew`, `outcome`, `admission`, `setup`, `place`, `pool`, `plain_jobs`.
+//! `answered`, `gate`, `spares`, `ending`, `four_jobs`, `bundle`, `worker`, `beside`, `crew`, `outcome`, `admission`, `setup`, `place`, `pool`, `plain_jobs`.
 #![tactic(auto)]
 
 mod admission;
 mod answered;
 mod beside;
+mod bundle;
 mod client;
 mod count;
 mod crew;
 mod each_kind;
+mod ending;
+mod four_jobs;
 mod gate;
 mod hands;
 mod ledgers;
@@ -38,6 +41,7 @@ mod place;
 mod plain_jobs;
 mod pool;
 mod setup;
+mod spares;
 mod stock;
 mod store;
 mod supply;

@@ -23,6 +23,7 @@ ghost use Rattle.worker_pool.specs.Working.{AreReady};
 use crate::admission::{PoolFault, pool_fault};
 use crate::crew::{Done, Parts, dismiss, recruit, work_and_reap};
 use crate::each_kind::{Blanks, Supplies};
+use crate::four_jobs::is_any_long;
 use crate::gate::Gate;
 use crate::ledgers::Names;
 use crate::outcome::{Host, Outcome};
@@ -117,6 +118,7 @@ fn run_in<L: Names + Send + Sync, G: Gate + Sync, R: Threads + Wait + Sync>(
         given.host.pages,
         seats.len(),
         given.jobs.len(),
+        is_any_long(&given.host.programs),
         blanks,
     ) else {
         return (seats, Err(AllocError));
@@ -167,6 +169,7 @@ fn serve_all<L: Names + Send + Sync, G: Gate + Sync, R: Threads + Wait + Sync>(
         supplies,
         programs: &given.host.programs,
         jobs: given.jobs,
+        long: room.long,
         size: room.size,
         tickets: &room.tickets,
         gate: given.gate,

@@ -3,7 +3,7 @@
 ghost use Rattle.std.specs.Prelude.{◌≡◌, ◌≤◌, ◌<◌, [], All, length, vec_len, vec_capacity, IfOk};
 ghost use Rattle.owners_table.specs.Drawing.{fresh};
 ghost use Rattle.worker_pool.specs.EachKind.{AreAllFor};
-ghost use Rattle.worker_pool.specs.Bundles.{IsBundleSize, IsShared};
+ghost use Rattle.worker_pool.specs.Bundles.{IsBundleSize, IsShared, fewest_bundles};
 ghost use Rattle.worker_pool.specs.Crews.{IsPrepared};
 ghost use Rattle.worker_pool.specs.Numbering.{IsBlank, bundles_in};
 
@@ -23,10 +23,15 @@ pub(crate) const MAX_BUNDLE: u64 = 512;
 /// How many tickets there are for each worker, at least, where one is of more than one job: so workers end together.
 pub(crate) const MIN_BUNDLES: u64 = 64;
 
+/// The same where a program is so long that four runs of it go together: so that there are four in a ticket of fewer jobs.
+pub(crate) const MIN_LONG_BUNDLES: u64 = 16;
+
 /// The arena and a ticket for each bundle of jobs, and room to say how many jobs each worker did.
 #[derive(Drop)]
 pub(crate) struct Room {
     pub(crate) arena: ArenaLock,
+    /// Whether any program is so long that four runs of it go together.
+    pub(crate) long: bool,
     /// How many jobs a bundle has; the last one may have fewer.
     pub(crate) size: u64,
     pub(crate) tickets: Tickets,
@@ -40,6 +45,7 @@ impl Room {
         pages: u32,
         workers: usize,
         jobs: usize,
+        long: bool,
     ) -> Result<(Room, Vec<TicketSeat>), AllocError>
         requires workers { (0 < workers) × (workers ≤ 64) }
         ensures size { IfOk result (λ r. IsBundleSize r.0.size) }
@@ -50,10 +56,11 @@ impl Room {
         let Ok(arena) = ArenaLock::new(alloc, pages) else {
             return Err(AllocError);
         };
-        let size = bundle_size(workers as u64, jobs as u64);
+        let size = bundle_size(workers as u64, jobs as u64, long);
         let (tickets, drawers) = Tickets::new(alloc, (jobs as u64).div_ceil(size), workers as u32)?;
         let room = Room {
             arena,
+            long,
             size,
             tickets,
             jobs_done: Vec::with_capacity(alloc, workers)?,
@@ -62,13 +69,15 @@ impl Room {
     }
 }
 
-// How many jobs a bundle has: as many as leave each worker its number of bundles.
-fn bundle_size(workers: u64, jobs: u64) -> u64
+// How many jobs a bundle has: as many as leave each worker its number of bundles, by fours if there are enough.
+fn bundle_size(workers: u64, jobs: u64, long: bool) -> u64
     requires workers { (0 < workers) × (workers ≤ 64) }
     ensures size { IsBundleSize result }
-    ensures shared { IsShared result workers jobs }
+    ensures shared { IsShared result workers (fewest_bundles long) jobs }
 {
-    (jobs / (workers * MIN_BUNDLES)).clamp(1, MAX_BUNDLE)
+    let fewest = if long { MIN_LONG_BUNDLES } else { MIN_BUNDLES };
+    let size = (jobs / (workers * fewest)).clamp(1, MAX_BUNDLE);
+    if size < 4 { size } else { size - size % 4 }
 }
 
 // That many empty lists.
@@ -95,7 +104,7 @@ pub(crate) struct Setup<L: Names> {
 }
 
 impl<L: Names> Setup<L> {
-    /// All that this many workers and jobs need. The supplies come last, so that little is to be undone.
+    /// All that this many workers and jobs need, of which some run a long program or none. The supplies come last, so that little is to be undone.
     ///
     /// # Errors
     /// There was no memory. All caches that were made were closed.
@@ -105,13 +114,14 @@ impl<L: Names> Setup<L> {
         pages: u32,
         count: usize,
         jobs: usize,
+        long: bool,
         blanks: Blanks,
     ) -> Result<Setup<L>, AllocError>
         requires blanks { AreAllFor L.outs L.ins L.puts L.gets blanks }
         requires count { (0 < count) × (count ≤ 64) }
         ensures { IfOk result (IsPrepared count jobs) }
     {
-        let (room, drawers) = Room::new(alloc, pages, count, jobs)?;
+        let (room, drawers) = Room::new(alloc, pages, count, jobs, long)?;
         let answered = blank_lists(alloc, count)?;
         let places = Vec::with_capacity(alloc, (jobs as u64).div_ceil(room.size) as usize)?;
         let workers = Vec::with_capacity(alloc, count)?;

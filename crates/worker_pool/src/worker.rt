@@ -18,22 +18,22 @@ ghost use Rattle.owners_table.specs.declared.owners.TheConstants.{ARENA_SLOTS};
 ghost use Rattle.worker_pool.specs.EachKind.{hands_of, IsEven};
 ghost use Rattle.worker_pool.specs.declared.worker.Ending.TheVariants.{Through, OutOfMemory};
 ghost use Rattle.worker_pool.specs.Bundles.{IsBundleSize};
-ghost use Rattle.worker_pool.specs.Going.{AreAnswered, HasAnsweredAll, IsAnswered, IsUnanswered, tools_of};
+ghost use Rattle.worker_pool.specs.Going.{HasAnsweredAll, tools_of};
 ghost use Rattle.worker_pool.specs.Numbering.{IsBlank, IsWhole, bundles_in, many_in, told_by};
 ghost use Rattle.worker_pool.specs.Working.{IsFresh, IsUnused, IsDone, IsServed, AreUsed, AreReady, Answers, HasDrawn};
 
 use crate::answered::{Answered, Bundle};
+use crate::bundle::answer_bundle;
 use crate::client::Client;
 use crate::each_kind::{Stocks, Supplies};
-use crate::gate::{Gate, Point};
+use crate::gate::Gate;
 use crate::hands::Tools;
 use crate::ledgers::Names;
+use crate::spares::Spares;
 use crate::store::Store;
-use ebpf_machine::whole::run_in_place;
-use ebpf_machine::workspace::Workspace;
-use ebpf_owned::Owned;
+use ebpf_fours::memory::Memory;
 use ebpf_verify::verified::Verified;
-use job_list::{JobReport, Jobs, Rest};
+use job_list::{JobReport, Jobs};
 use object_cache::ArenaLock;
 use owners_table::owners::Owners;
 use owners_table::tickets::{TicketSeat, Tickets};
@@ -52,6 +52,8 @@ pub(crate) struct Shared<'a, L: Names, G: Gate, R: Wait> {
     pub(crate) supplies: &'a Supplies<L>,
     pub(crate) programs: &'a [Verified],
     pub(crate) jobs: &'a Jobs,
+    /// Whether any program is so long that four runs of it go together.
+    pub(crate) long: bool,
     /// How many jobs a bundle has.
     pub(crate) size: u64,
     pub(crate) tickets: &'a Tickets,
@@ -164,25 +166,32 @@ fn serve<'a, L: Names, G: Gate + 'a, R: Wait + 'a>(
     ensures goes { HasAnsweredAll (tools_of store.old.stocks store.old.client) (told_by shared.now.size answered.new)
         (tools_of store.new.stocks store.new.client) }
 {
-    let Ok(mut workspace) = Workspace::new(shared.alloc) else {
+    let Ok(mut memory) = Memory::with_one(shared.alloc) else {
         return Ending::Unstarted;
     };
-    let mut spare = None;
+    let mut spares = Spares::new();
     for _ in shared.rt.forever() {
         let Some(number) = shared.tickets.draw(ticket) else {
-            workspace.free();
+            memory.free();
             return Ending::Through;
         };
         let Ok(mut reports) = room_for_bundle(shared, number, answered) else {
-            workspace.free();
+            memory.free();
             return Ending::OutOfMemory;
         };
-        let done = answer_bundle(shared, number, store, &mut reports, &mut spare, workspace);
+        let done = answer_bundle(
+            shared,
+            number,
+            store,
+            &mut reports,
+            &mut spares,
+            &mut memory,
+        );
         answered.bundles.push_reserved(Bundle { number, reports });
-        match done {
-            Ok(left) => workspace = left,
-            Err(_) => return Ending::OutOfMemory,
-        }
+        let Ok(()) = done else {
+            memory.free();
+            return Ending::OutOfMemory;
+        };
     }
     unreachable!()
 }
@@ -202,81 +211,4 @@ fn room_for_bundle<'a, L: Names, G: Gate + 'a, R: Wait + 'a>(
     answered.bundles.reserve(1)?;
     let left = shared.jobs.len() as u64 - number * shared.size;
     Vec::with_capacity(shared.alloc, shared.size.min(left) as usize)
-}
-
-// Does the jobs of a bundle, one after another, as far as there is memory.
-fn answer_bundle<'a, L: Names, G: Gate + 'a, R: Wait + 'a>(
-    shared: &Shared<'a, L, G, R>,
-    bundle: u64,
-    store: &mut Store<'a, L, R>,
-    reports: &mut Vec<JobReport>,
-    spare: &mut Option<Box<Rest>>,
-    workspace: Workspace<Owned>,
-) -> Result<Workspace<Owned>, AllocError>
-    requires ready { AreReady shared.now.programs.now shared.now.jobs.now }
-    requires bundle { bundle < bundles_in shared.now.size (length shared.now.jobs.now) }
-    requires none { reports.old.items ≡ [] }
-    requires room { many_in shared.now.size (length shared.now.jobs.now) bundle ≤ vec_capacity reports.old }
-    requires even { IsEven (hands_of store.old.stocks) }
-    ensures even { IsEven (hands_of store.new.stocks) }
-    ensures answered { AreAnswered shared.now.programs.now shared.now.jobs.now (bundle * shared.now.size)
-        (tools_of store.old.stocks store.old.client) (tools_of store.new.stocks store.new.client) reports.new.items }
-    ensures all { OnOk result (vec_len reports.new ≡ many_in shared.now.size (length shared.now.jobs.now) bundle) }
-{
-    let first = bundle * shared.size;
-    let end = (first + shared.size).min(shared.jobs.len() as u64);
-    let mut workspace = workspace;
-    for number in first..end {
-        workspace = answer(shared, number, store, reports, spare, workspace)?;
-    }
-    Ok(workspace)
-}
-
-// Does the job of a number, and keeps its report.
-fn answer<'a, L: Names, G: Gate + 'a, R: Wait + 'a>(
-    shared: &Shared<'a, L, G, R>,
-    number: u64,
-    store: &mut Store<'a, L, R>,
-    reports: &mut Vec<JobReport>,
-    spare: &mut Option<Box<Rest>>,
-    workspace: Workspace<Owned>,
-) -> Result<Workspace<Owned>, AllocError>
-    requires ready { AreReady shared.now.programs.now shared.now.jobs.now }
-    requires number { number < length shared.now.jobs.now }
-    requires room { vec_len reports.old < vec_capacity reports.old }
-    requires even { IsEven (hands_of store.old.stocks) }
-    ensures even { IsEven (hands_of store.new.stocks) }
-    ensures answered { OnOk result (IsAnswered shared.now.programs.now shared.now.jobs.now number
-        (tools_of store.old.stocks store.old.client) (tools_of store.new.stocks store.new.client) reports.old.items reports.new.items) }
-    ensures failed { OnErr result (IsUnanswered (tools_of store.old.stocks store.old.client) (tools_of store.new.stocks store.new.client)
-        reports.old.items reports.new.items) }
-    ensures capacity { vec_capacity reports.new ≡ vec_capacity reports.old }
-{
-    let job = shared.jobs.job(number as usize);
-    let Ok(()) = room_for_rest(shared.alloc, spare) else {
-        workspace.free();
-        return Err(AllocError);
-    };
-    shared.gate.at(number, Point::Begin);
-    store.client.job = number as u32;
-    let verified = &shared.programs[job.program];
-    let Ok(ended) = run_in_place(workspace, verified, job.context, store) else {
-        return Err(AllocError);
-    };
-    // Read for what they promise: a report's numbers are small.
-    let _ = (verified.program().len(), verified.decl());
-    let (report, workspace) = JobReport::of(ended, spare);
-    reports.push_reserved(report);
-    shared.gate.at(number, Point::Answered);
-    Ok(workspace)
-}
-
-// A spare box for the rest of a report.
-fn room_for_rest(alloc: Global, spare: &mut Option<Box<Rest>>) -> Result<(), AllocError>
-    ensures { OnOk result (is_some spare.new ≡ true) }
-{
-    if spare.is_none() {
-        *spare = Some(Rest::boxed(alloc)?);
-    }
-    Ok(())
 }

@@ -159,10 +159,11 @@ fn a_job_waits_for_the_next_one(rt: HostRuntime) -> Result<(), AllocError> {
     is_done(
         &rt,
         rt.alloc(),
-        "2 16 10 0 100 a",
+        // so few that each is a bundle, though one of the programs is long
+        "2 16 10 0 30 a",
         [next, first],
         10_000_000,
-        "100 of exit 5 executed 9 peak 1 output [] answers g; 100/100/0 0/0/0 0/0/0 clashes 0",
+        "30 of exit 5 executed 9 peak 1 output [] answers g; 30/30/0 0/0/0 0/0/0 clashes 0",
     )
 }
 

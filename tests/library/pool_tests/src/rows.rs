@@ -113,10 +113,10 @@ fn many_workers_report_as_the_programs_alone(rt: HostRuntime) -> Result<(), Allo
     Ok(())
 }
 
-// Jobs of a long program in a row, by themselves and among others; each report is compared with its program run alone, which has what others
-// left on the shelf.
+// Jobs of a long program in a row, which go four together, by themselves and among others; each report is compared with its program run
+// alone, which has what others left on the shelf.
 #[test]
-fn jobs_of_a_long_program_report_as_it_does_alone(rt: HostRuntime) -> Result<(), AllocError> {
+fn jobs_that_go_together_report_as_the_programs_alone(rt: HostRuntime) -> Result<(), AllocError> {
     for letters in ["p", "ppppa", "ppapppppe"] {
         for workers in [1, 3] {
             let setting = Setting {

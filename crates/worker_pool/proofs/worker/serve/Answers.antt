@@ -50,3 +50,11 @@ returns-in_default-draw-clause-drawn g c =
           let drawn = ap (λ (s : TicketView). times x s.drawn) late.2 ∙ drawn_more x c.loop.ticket.drawn late.0 in
           omega (arith, drawn, past, i.drawn x below),
     )
+
+pub returns-in_default-done-clause-good : goal.returns-in_default-done-clause-good
+returns-in_default-done-clause-good g c =
+    let b : Bundle = record { number = c.in-Some-draw.number; reports = c.answer_bundle-done.new.reports } in
+    let pushed : c.push_reserved.new.self.items ≡ c.loop.answered.bundles.items ++ b ∷ [] = search rules in
+    let told = told_more c.args.shared.now.size c.loop.answered (record { bundles = c.push_reserved.new.self }) b pushed in
+    let good = Answers c.args.shared.now.programs.now c.args.shared.now.jobs.now in
+    subst (λ (l : List Numbered). All good l) (sym told) (All-append good _ _ c.loop.invariant.good c.answer_bundle-done.ensures.answered.good)
