@@ -23,6 +23,8 @@ FORMS = {
     'refused slot why': 'refused {refused} {slot}\n  {why}\n',
     'exit executed peak output': 'exit {exit} executed {executed} peak {peak}\n',
     'slot instruction': '{slot}: {instruction}\n',
+    'slot instruction changed value': '{slot}: {instruction}  ; {changed} = {value}\n',
+    'slot instruction emit changed value': '{slot}: {instruction}  ; emit {emit}, {changed} = {value}\n',
     'known': '  {known}\n',
     'lost': '  {lost}\n',
     'of visit': '  slot {of}, visit {visit}\n',

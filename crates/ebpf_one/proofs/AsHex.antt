@@ -11,6 +11,7 @@ use Rattle.ebpf_command.specs.declared.done.FaultCode.{FaultCode}
 use Rattle.ebpf_command.specs.HexText.{bytes_or_none}
 use Rattle.ebpf_command.specs.Response.{Response}
 use Rattle.ebpf_command.specs.Writing.{Responding, Writes}
+use Rattle.ebpf_input.specs.declared.ask.Ask.{Ask}
 use Rattle.ebpf_input.specs.declared.ask.Input.{Input}
 use Rattle.ebpf_input.specs.declared.ask.Input.TheVariants.{Program, Object}
 use Rattle.ebpf_input.specs.declared.form.Form.{Form}
@@ -19,10 +20,12 @@ use Rattle.ebpf_input.specs.Asked.{Asked, asked_for, bytes_in, input_fault, faul
 use Rattle.ebpf_input.specs.ObjectText.{Refusing, RespondsInputOr}
 use Rattle.ebpf_input.specs.ProgramText.{is_blank}
 use Rattle.ebpf_input.proofs.Digits.{not_above}
+use Rattle.ebpf_one.specs.declared.how.How.{How}
 use Rattle.ebpf_one.specs.Alike.{IsHexText, WritesAsHex, WritesInputAsHex}
 use Rattle.ebpf_one.specs.LayOutText.{LaysOut, LaysOutGiven}
 use Rattle.ebpf_one.specs.ListText.{RespondsList, RespondsGiven}
-use Rattle.ebpf_one.specs.OneText.{Responds, RespondsAsked}
+use Rattle.ebpf_one.specs.OneText.{OneTo, Responds, RespondsAsked}
+use Rattle.ebpf_one.specs.SourcedRun.{OneBy}
 use Rattle.ebpf_one.specs.SourceText.{ListsInput}
 
 -- the bytes are no more than the digits
@@ -60,10 +63,10 @@ same_asked hex bytes context held is = rw (is.digits) refl
 abbrev pub AreAlike : (Form → Responding) → Type 0
 AreAlike P = (hex bytes : List ℕ) (response : Response) → IsHexText hex bytes → P Raw bytes response → P Hex hex response
 
-pub one_alike : (format : Format) (context : List ℕ) (held : ℕ) (nulls : Bool) → AreAlike (λ form. Responds format form context held nulls)
-one_alike format context held nulls hex bytes response is h =
-    subst (λ (f : Option FaultCode). RespondsAsked format f (asked_for Hex hex context held) nulls response) (same_fault hex bytes context held is)
-    (subst (λ (a : Asked). RespondsAsked format (fault_of Raw bytes context held) a nulls response) (same_asked hex bytes context held is) h)
+pub one_alike : (format : Format) (context : List ℕ) (held : ℕ) (how : How) → AreAlike (λ form. Responds format form context held how)
+one_alike format context held how hex bytes response is h =
+    subst (λ (f : Option FaultCode). RespondsAsked format f (asked_for Hex hex context held) how response) (same_fault hex bytes context held is)
+    (subst (λ (a : Asked). RespondsAsked format (fault_of Raw bytes context held) a how response) (same_asked hex bytes context held is) h)
 
 pub list_alike : (format : Format) → AreAlike (RespondsList format)
 list_alike format hex bytes response is h =
@@ -97,3 +100,9 @@ pub list_as_hex : (format : Format) (what : Input) (lines : Bool) (input old new
     → Writes (ListsInput format what lines) input old new result → WritesInputAsHex (RespondsList format) what input old new result
 list_as_hex format (Program form) lines input old new result h = writes_as_hex (RespondsList format) (list_alike format) form input old new result h
 list_as_hex format (Object name) lines input old new result h = tt
+
+pub one_as_hex : (ask : Ask) (how : How) (what : Input) (lines : Bool) (input old new : Option (List ℕ)) (result : Result Done EngineFault)
+    → Writes (OneBy ask how what lines) input old new result → WritesInputAsHex (OneTo ask how) what input old new result
+one_as_hex ask how (Program form) lines input old new result h =
+    writes_as_hex (OneTo ask how) (one_alike ask.format ask.context.now ask.held how) form input old new result h
+one_as_hex ask how (Object name) lines input old new result h = tt

@@ -214,7 +214,7 @@ reported_peak o s after t n report exited is sound alone =
     ap (λ (out : Outcome). out.peak) (sym told ∙ ap (outcome_alone t.subject t.context) (replies ∙ sym (none_more (replies_of v))) ∙ ends)
 
 -- so the report of a run that exited is that of the run in a world of its own
-reports_exit : {S H : Type 0} (o : Store S H) (IsFine : S → Type 0) (nulls : Bool) (first new after : S) (subject : Subject) (context : List ℕ)
+pub reports_exit : {S H : Type 0} (o : Store S H) (IsFine : S → Type 0) (nulls : Bool) (first new after : S) (subject : Subject) (context : List ℕ)
     (r t : RunState H) (number n : ℕ) (report : Report)
     → IsBegun o IsFine nulls first subject context r → AreTurns o number r t first new → t.executed ≡ number
     → number ≤ length (instructions subject.program)

@@ -29,7 +29,7 @@ use Rattle.ebpf_input.specs.Formats.{refused_in}
 use Rattle.ebpf_input.specs.ObjectText.{Refusing, RespondsFault, object_fault_lines}
 use Rattle.ebpf_input.specs.SourceLine.{heading, held_before}
 use Rattle.ebpf_one.specs.declared.data_list.Beside.{Beside}
-use Rattle.ebpf_one.specs.declared.data_list.Headed.{Headed}
+use Rattle.ebpf_one.specs.declared.headed.Headed.{Headed}
 use Rattle.ebpf_one.specs.Formats.{insn_in}
 
 -- which data is meant: the name of its section, and the offset in it

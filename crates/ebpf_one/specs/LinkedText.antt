@@ -24,7 +24,7 @@ use Rattle.ebpf_one.specs.RunText.{RefusesJudged, RunsAs}
 -- it is written with its data, or run
 abbrev pub SendsRight : Format → Option Running → (after : List ℕ) → Subject → List (Option ℕ) → Response → Type 0
 SendsRight format None after s of response = SaysLinked format s.program of after response
-SendsRight format (Some run) after s of response = RunsAs format run s response
+SendsRight format (Some run) after s of response = RunsAs format run s of response
 
 -- if its word is right in every run, which is shown
 pub record IsSentRight (format : Format) (run : Option Running) (link : Link) (s : Subject) (of : List (Option ℕ)) (response : Response) : Type 0 where

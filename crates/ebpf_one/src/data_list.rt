@@ -12,6 +12,7 @@ ghost use Rattle.ebpf_object_file.specs.Section.{sections_in};
 ghost use Rattle.ebpf_one.specs.DataListText.{ListsDataDecoded, ListsDataFunction, ListsDataLined, ListsDataSourced, ListsWithData};
 ghost use Rattle.ebpf_one.specs.DataListText.{address_in, address_object, address_text, heading_in, row_of, section_text, use_text, used_in};
 
+use crate::headed::Headed;
 use crate::source_list::write_insn_in;
 use ebpf_command::answer::Answer;
 use ebpf_command::codes::RefusalCode;
@@ -32,13 +33,6 @@ use ebpf_object_file::data_use::DataUse;
 use ebpf_object_file::lines::{Line, Lines};
 use ebpf_object_file::source::lines_of;
 use std::alloc::{AllocError, Global};
-
-/// The lines of C of a function, and the one that holds at each of its slots.
-#[derive(Clone, Copy)]
-pub(crate) struct Headed<'a> {
-    pub(crate) lines: Lines<'a>,
-    pub(crate) holding: &'a [Option<Line>],
-}
 
 // What is written beside each slot of a function: the data of its file, and the lines of C.
 #[derive(Clone, Copy)]

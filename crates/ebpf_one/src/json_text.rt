@@ -10,25 +10,24 @@ use ebpf_input::json_text::write_instruction;
 use ebpf_insn::program::Program;
 use std::alloc::{AllocError, Global};
 
-/// The objects of a program of n instructions that ran to its end.
-pub(crate) fn run_objects(
-    alloc: Global,
+/// Writes the objects of a program of n instructions that ran to its end, after a text.
+pub(crate) fn write_run_objects(
+    text: &mut String,
     len: usize,
     output: &[u64],
     exit: u64,
     executed: u64,
     peak: u64,
-) -> Result<String, AllocError>
-    ensures { IfOk result (λ text. string_bytes text ≡ run_objects len output.now exit executed peak) }
+) -> Result<(), AllocError>
+    ensures { OnOk result (string_bytes text.new ≡ string_bytes text.old ++ run_objects len output.now exit executed peak) }
 {
-    let mut text = format!(in alloc; "{{\"accepted\":{len}}}\n")?;
+    write!(text, "{{\"accepted\":{len}}}\n")?;
     write!(
         text,
         "{{\"exit\":{exit},\"executed\":{executed},\"peak\":{peak},\"output\":["
     )?;
-    write_numbers(&mut text, output)?;
-    text.push_str("]}\n")?;
-    Ok(text)
+    write_numbers(text, output)?;
+    text.push_str("]}\n")
 }
 
 /// Writes the object of the instruction at a slot, if one begins there.

@@ -6,14 +6,16 @@
 //! knows, which the contract leaves open. The program that an input gives comes from ebpf_input, and all else rests on the contracts of the
 //! crates below. This crate adds what the four ask for and the lines of their texts.
 //!
-//! To be read in this order: `alone`, `text`, `json_text`, `answer`, `one`, `data_list`, `source_list`, `list`;
-//! `copies_text`, `running`, `linked`, `lay_out_linked`, `lay_out`, `unroll`.
+//! To be read in this order: `headed`, `how`, `alone`, `steps`, `text`, `json_text`, `answer`, `sourced_run`, `one`; `data_list`,
+//! `source_list`, `list`; `copies_text`, `running`, `linked`, `lay_out_linked`, `lay_out`, `unroll`.
 #![tactic(auto)]
 
 mod alone;
 mod answer;
 mod copies_text;
 mod data_list;
+mod headed;
+pub mod how;
 mod json_text;
 pub mod lay_out;
 mod lay_out_linked;
@@ -22,5 +24,7 @@ pub mod list;
 pub mod one;
 mod running;
 mod source_list;
+mod sourced_run;
+mod steps;
 mod text;
 pub mod unroll;

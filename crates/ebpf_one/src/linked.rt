@@ -8,7 +8,7 @@ ghost use Rattle.ebpf_state.specs.Kinds.{AreKinds};
 ghost use Rattle.ebpf_one.specs.LinkedText.{IsOverOwn, SendsAccepted, SendsLaid, SendsLinked, SendsRight};
 ghost use Rattle.ebpf_one.specs.RunText.{IsDeclared};
 
-use crate::answer::answer_verified;
+use crate::answer::answer_copied;
 use crate::copies_text::answer_linked;
 use crate::running::{Running, judged};
 use ebpf_command::answer::Answer;
@@ -46,13 +46,13 @@ pub(crate) fn send_linked(
     made: Forward,
     decl: Decl,
     kinds: &[KindRow],
-    run: Option<Running>,
+    run: Option<Running<'_>>,
     link: Link,
 ) -> Result<Answer, AllocError>
     requires kinds { AreKinds kinds.now }
     requires made { IsDeclared decl kinds.now made }
     requires declared { IfSome run (λ r. decl.context ≡ length r.context.items) }
-    ensures { IfOk result (SendsLinked format run link decl kinds.now made) }
+    ensures { IfOk result (SendsLinked format run.entry link decl kinds.now made) }
 {
     match made {
         Forward::LaidOut(laid) => send_laid(alloc, format, laid, decl, kinds, run, link),
@@ -69,13 +69,13 @@ pub(crate) fn send_laid(
     laid: Laid,
     decl: Decl,
     kinds: &[KindRow],
-    run: Option<Running>,
+    run: Option<Running<'_>>,
     link: Link,
 ) -> Result<Answer, AllocError>
     requires kinds { AreKinds kinds.now }
     requires fine { flow_fault laid.program ≡ None }
     requires declared { IfSome run (λ r. decl.context ≡ length r.context.items) }
-    ensures { IfOk result (SendsLaid format run link (record { program = laid.program; decl = decl; rows = kinds.now }) laid.of.items) }
+    ensures { IfOk result (SendsLaid format run.entry link (record { program = laid.program; decl = decl; rows = kinds.now }) laid.of.items) }
 {
     let Laid { program, of } = laid;
     match judged(alloc, program, decl, kinds) {
@@ -93,12 +93,12 @@ fn send_accepted(
     format: Format,
     verified: &Verified,
     of: &[Option<u16>],
-    run: Option<Running>,
+    run: Option<Running<'_>>,
     link: Link,
 ) -> Result<Answer, AllocError>
     requires declared { IfSome run (λ r. verified.now.decl.context ≡ length r.context.items) }
     requires kinds { kinds_of verified.now.rows ≡ known_kinds }
-    ensures { IfOk result (SendsAccepted format run link verified.now of.now) }
+    ensures { IfOk result (SendsAccepted format run.entry link verified.now of.now) }
 {
     let Link { bytes, word } = link;
     if is_right(alloc, verified, word)? {
@@ -114,15 +114,15 @@ fn send_right(
     format: Format,
     verified: &Verified,
     of: &[Option<u16>],
-    run: Option<Running>,
+    run: Option<Running<'_>>,
     after: &[u8],
 ) -> Result<Answer, AllocError>
     requires declared { IfSome run (λ r. verified.now.decl.context ≡ length r.context.items) }
     requires kinds { kinds_of verified.now.rows ≡ known_kinds }
-    ensures { IfOk result (SendsRight format run after.now verified.now of.now) }
+    ensures { IfOk result (SendsRight format run.entry after.now verified.now of.now) }
 {
     match run {
-        Some(run) => answer_verified(alloc, format, verified, run.context, run.nulls),
+        Some(run) => answer_copied(alloc, format, verified, of, run.context, run.how),
         None => answer_linked(alloc, format, verified.program(), of, after),
     }
 }

@@ -8,7 +8,8 @@ ghost use Rattle.ebpf_flow.specs.Flow.{flow_fault};
 ghost use Rattle.ebpf_verify.specs.Verdict.{IsVerifyFault, verdict};
 ghost use Rattle.ebpf_one.specs.RunText.{IsDeclared, IsRunOf, RunsForward, RunsJudged};
 
-use crate::answer::answer_verified;
+use crate::answer::answer_copied;
+use crate::how::How;
 use ebpf_command::answer::Answer;
 use ebpf_command::codes::RefusalCode;
 use ebpf_command::format::Format;
@@ -17,6 +18,7 @@ use ebpf_flow::fault::FlowFault;
 use ebpf_forward::forward::Forward;
 use ebpf_input::in_format::answer_refused;
 use ebpf_insn::program::Program;
+use ebpf_layout::layout::Laid;
 use ebpf_state::kinds::KindRow;
 use ebpf_verify::decl::Decl;
 use ebpf_verify::fault::VerifyFault;
@@ -24,19 +26,19 @@ use ebpf_verify::verified::Verified;
 use ebpf_verify::verify::verify;
 use std::alloc::{AllocError, Global};
 
-/// A run that is asked for: its context, and whether each call of `new` is answered null.
+/// A run that is asked for: its context, and how it is done.
 #[derive(Drop)]
-pub(crate) struct Running {
+pub(crate) struct Running<'a> {
     pub(crate) context: Vec<u8>,
-    pub(crate) nulls: bool,
+    pub(crate) how: How<'a>,
 }
 
 /// The run that is asked for, if one is, on a context.
-pub(crate) fn run_of(context: Vec<u8>, nulls: Option<bool>) -> Option<Running>
-    ensures { IsRunOf nulls context.items result }
+pub(crate) fn run_of(context: Vec<u8>, how: Option<How<'_>>) -> Option<Running<'_>>
+    ensures { IsRunOf how.entry context.items result }
 {
-    match nulls {
-        Some(nulls) => Some(Running { context, nulls }),
+    match how {
+        Some(how) => Some(Running { context, how }),
         None => None,
     }
 }
@@ -49,17 +51,18 @@ pub(crate) fn run_forward(
     made: Forward,
     decl: Decl,
     kinds: &[KindRow],
-    run: Running,
+    run: Running<'_>,
 ) -> Result<Answer, AllocError>
     requires kinds { AreKinds kinds.now }
     requires made { IsDeclared decl kinds.now made }
     requires declared { decl.context ≡ length run.context.items }
-    ensures { IfOk result (RunsForward format run decl kinds.now made) }
+    ensures { IfOk result (RunsForward format run.entry decl kinds.now made) }
 {
     match made {
-        Forward::LaidOut(laid) => run_laid(alloc, format, laid.program, decl, kinds, run),
+        Forward::LaidOut(laid) => run_laid(alloc, format, laid, decl, kinds, run),
         Forward::Unrolled(unrolled) => {
-            answer_verified(alloc, format, &unrolled.verified, run.context, run.nulls)
+            let of = &unrolled.of;
+            answer_copied(alloc, format, &unrolled.verified, of, run.context, run.how)
         }
     }
 }
@@ -69,18 +72,19 @@ pub(crate) fn run_forward(
 fn run_laid(
     alloc: Global,
     format: Format,
-    program: Program,
+    laid: Laid,
     decl: Decl,
     kinds: &[KindRow],
-    run: Running,
+    run: Running<'_>,
 ) -> Result<Answer, AllocError>
     requires kinds { AreKinds kinds.now }
-    requires fine { flow_fault program ≡ None }
+    requires fine { flow_fault laid.program ≡ None }
     requires declared { decl.context ≡ length run.context.items }
-    ensures { IfOk result (RunsJudged format run (record { program = program; decl = decl; rows = kinds.now })) }
+    ensures { IfOk result (RunsJudged format run.entry (record { program = laid.program; decl = decl; rows = kinds.now }) laid.of.items) }
 {
+    let Laid { program, of } = laid;
     match judged(alloc, program, decl, kinds) {
-        Ok(verified) => answer_verified(alloc, format, &verified, run.context, run.nulls),
+        Ok(verified) => answer_copied(alloc, format, &verified, &of, run.context, run.how),
         Err(VerifyFault::Refused { slot, code }) => {
             answer_refused(alloc, format, RefusalCode::Verify(code).name(), slot)
         }

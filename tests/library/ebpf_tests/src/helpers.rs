@@ -1,7 +1,7 @@
 //! What `one` and `replay` say of programs that call helpers.
 
 use crate::events::is_replayed;
-use crate::programs::{asked, column, holds, is_text};
+use crate::programs::{asked, column, holds, how, is_text};
 use ebpf_command::done::Done;
 use ebpf_input::form::Form;
 use ebpf_one::one::one;
@@ -56,7 +56,7 @@ fn is_run(rt: &impl Abort, alloc: Global, row: &str) {
         &mut reader,
         &mut written,
         &asked(Form::Hex, "-", held),
-        nulls,
+        how(nulls),
     )
     .expect(rt, "it is done");
     let text = str::from_utf8(&written).expect(rt, "it is a text");

@@ -2,7 +2,7 @@
 //! on an immediate, for all pairs of numbers at which something changes. The programs are written slot by slot, by the
 //! opcodes of RFC 9669.
 
-use crate::programs::{asked, holds};
+use crate::programs::{asked, holds, how};
 use crate::range::{
     CONDITIONS, ENDS, OPERATIONS, condition, extended, is_so, kept, low_half, operation, orders,
     readings, result,
@@ -37,7 +37,7 @@ fn is_written(rt: &impl Abort, alloc: Global, program: Vec<u8>, want: &str) {
     let text = hex::encode(alloc, program).expect(rt, "out of memory");
     let mut reader = text.as_bytes();
     let mut written = Vec::new(alloc);
-    let done = one(alloc, &mut reader, &mut written, &asked(Form::Hex, "-", 0), false);
+    let done = one(alloc, &mut reader, &mut written, &asked(Form::Hex, "-", 0), how(false));
     let is_done = done.is_ok();
     holds(rt, want, is_done && written.as_slice() == want.as_bytes());
 }

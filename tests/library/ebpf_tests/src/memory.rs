@@ -1,6 +1,6 @@
 //! What `one` says of programs that load and store.
 
-use crate::programs::{asked, column, is_text};
+use crate::programs::{asked, column, how, is_text};
 use ebpf_input::form::Form;
 use ebpf_one::one::one;
 use std::alloc::Global;
@@ -38,7 +38,7 @@ fn is_written(rt: &impl Abort, alloc: Global, row: &str) {
         &mut reader,
         &mut written,
         &asked(Form::Hex, context, 0),
-        false,
+        how(false),
     )
     .expect(rt, "it is done");
     let text = str::from_utf8(&written).expect(rt, "it is a text");

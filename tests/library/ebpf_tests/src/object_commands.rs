@@ -1,7 +1,7 @@
 //! What the commands write of an object file, of a function of it, and of a file that has none.
 
 use crate::object_file::object;
-use crate::programs::{column, holds, is_text};
+use crate::programs::{column, holds, how, is_text};
 use ebpf_command::done::Done;
 use ebpf_command::format::Format;
 use ebpf_input::ask::{Ask, Input};
@@ -44,7 +44,7 @@ fn written(rt: &impl Abort, alloc: Global, command: &str, name: &str, function: 
         held: 0,
     };
     let done = match command {
-        "one" => one(alloc, &mut reader, &mut writer, &ask, false),
+        "one" => one(alloc, &mut reader, &mut writer, &ask, how(false)),
         "list" => list(alloc, &mut reader, &mut writer, Format::Text, &input, false),
         "explain" => explain(alloc, &mut reader, &mut writer, &ask, false),
         _ => lay_out(alloc, &mut reader, &mut writer, &ask),

@@ -1,7 +1,7 @@
 //! What `one` and `explain` say if a caller asks for more held objects than the command line lets through, and what the
 //! commands over one program say of raw bytes.
 
-use crate::programs::{asked, holds};
+use crate::programs::{asked, holds, how};
 use ebpf_command::done::Done;
 use ebpf_command::format::Format;
 use ebpf_input::ask::Input;
@@ -63,7 +63,7 @@ fn is_written(rt: &impl Abort, alloc: Global, row: (&str, &str, u8, &str), nulls
         &mut reader,
         &mut written,
         &asked(Form::Hex, context, held),
-        nulls,
+        how(nulls),
     )
     .expect(rt, "it is done");
     let is_clean = matches!(done, Done::Clean);
@@ -129,7 +129,7 @@ fn is_text_of_raw(rt: &impl Abort, alloc: Global, command: &str, text: &str) {
     let mut reader = SEVEN;
     let mut written = Vec::new(alloc);
     let done = match command {
-        "one" => one(alloc, &mut reader, &mut written, &asked(Form::Raw, "-", 0), false),
+        "one" => one(alloc, &mut reader, &mut written, &asked(Form::Raw, "-", 0), how(false)),
         "list" => list(alloc, &mut reader, &mut written, Format::Text, &Input::Program(Form::Raw), false),
         "explain" => explain(alloc, &mut reader, &mut written, &asked(Form::Raw, "-", 0), false),
         _ => lay_out(alloc, &mut reader, &mut written, &asked(Form::Raw, "-", 0)),
@@ -173,7 +173,7 @@ fn is_text_of_first(rt: &impl Abort, alloc: Global, bytes: usize) {
         &mut reader,
         &mut written,
         &asked(Form::Hex, "-", 1),
-        false,
+        how(false),
     )
     .expect(rt, "it is done");
     let text = text_of_first(bytes);

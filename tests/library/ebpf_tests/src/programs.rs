@@ -7,6 +7,7 @@ use ebpf_input::ask::{Ask, Input};
 use ebpf_input::form::Form;
 use ebpf_insn::decode::decode;
 use ebpf_insn::program::Program;
+use ebpf_one::how::How;
 use std::alloc::Global;
 use std::process::Abort;
 
@@ -44,4 +45,9 @@ pub(crate) fn asked(form: Form, context: &str, held: u8) -> Ask<'_> {
         context,
         held,
     }
+}
+
+// How a program is run that isn't traced.
+pub(crate) fn how(nulls: bool) -> How<'static> {
+    How::new(nulls, false, false)
 }

@@ -4,6 +4,7 @@ use crate::accepted::read;
 use crate::programs::holds;
 use ebpf_fours::memory::Memory;
 use ebpf_fours::starting::{FourContexts, start_four};
+use ebpf_fours::whole::exit_in_place;
 use ebpf_fours::workspaces::FourWorkspaces;
 use ebpf_machine::four_runs::{FourRuns, go_together};
 use ebpf_machine::kinds::row_of;
@@ -46,6 +47,18 @@ fn exits(rt: &impl Abort, run: Run<'_, Object>, store: &mut Store, number: u64, 
     holds(rt, "its instructions", report.executed == executed);
 }
 
+// That a run exits with a number: its memory.
+fn exits_in_place(
+    rt: &impl Abort,
+    run: Run<'_, Object>,
+    store: &mut Store,
+    number: u64,
+) -> Workspace<Object> {
+    let ended = exit_in_place(run, store);
+    holds(rt, "its exit", ended.exit() == Some(number));
+    ended.forget()
+}
+
 #[test]
 fn four_runs_go_on_together_up_to_where_they_part(rt: HostRuntime) {
     let alloc = rt.alloc();
@@ -73,10 +86,11 @@ fn four_runs_go_on_together_up_to_where_they_part(rt: HostRuntime) {
 }
 
 #[test]
-fn four_runs_start_in_their_memory(rt: HostRuntime) {
+fn four_runs_start_in_their_memory_and_each_exits(rt: HostRuntime) {
     let (programs, _) = read(&rt, rt.alloc(), DOUBLED);
     let verified = programs.first().expect(&rt, "there is a program");
-    let mut memory: Memory<Object> = Memory::new(rt.alloc());
+    let mut store = Store::new(rt.alloc(), false);
+    let mut memory = Memory::with_one(rt.alloc()).expect(&rt, "there is memory");
     let workspaces = memory.take_four().expect(&rt, "there is memory");
     let contexts = FourContexts {
         one: &[1],
@@ -90,14 +104,14 @@ fn four_runs_start_in_their_memory(rt: HostRuntime) {
         two,
         three,
         four,
-    } = runs;
-    holds(&rt, "none did anything", one.executed() == 0 && four.executed() == 0);
-    memory.put_four(FourWorkspaces {
-        one: one.forget(),
-        two: two.forget(),
-        three: three.forget(),
-        four: four.forget(),
-    });
+    } = go_together(runs, &store);
+    let workspaces = FourWorkspaces {
+        one: exits_in_place(&rt, one, &mut store, 104),
+        two: exits_in_place(&rt, two, &mut store, 108),
+        three: exits_in_place(&rt, three, &mut store, 80),
+        four: exits_in_place(&rt, four, &mut store, 112),
+    };
+    memory.put_four(workspaces);
     let one = memory.take().expect(&rt, "there is memory");
     memory.put(one);
     memory.free();

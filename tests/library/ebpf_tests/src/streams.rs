@@ -1,6 +1,6 @@
 //! Readers and writers that give and take a few bytes a call, and then end or fail, under each of the commands.
 
-use crate::programs::{asked, holds};
+use crate::programs::{asked, holds, how};
 use ebpf_command::done::{Done, EngineFault};
 use ebpf_command::format::Format;
 use ebpf_input::ask::Input;
@@ -172,7 +172,7 @@ fn call<R: Threads + Wait + Sync>(
     writer: &mut Sink,
 ) -> Result<Done, EngineFault> {
     match command {
-        "one" => one(alloc, reader, writer, &asked(Form::Hex, "-", 0), false),
+        "one" => one(alloc, reader, writer, &asked(Form::Hex, "-", 0), how(false)),
         "list" => list(alloc, reader, writer, Format::Text, &Input::Program(Form::Hex), false),
         "explain" => explain(alloc, reader, writer, &asked(Form::Hex, "-", 0), false),
         "check" => check(alloc, reader, writer),

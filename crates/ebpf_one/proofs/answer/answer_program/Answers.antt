@@ -10,5 +10,5 @@ returns-in-Ok c =
     let e = c.in-Ok.ensures in
     let same : asked ≡ asked_for c.args.form c.args.input.now c.args.ask.now.context.now c.args.ask.now.held = rw (e.bytes, e.context, e.declared.1) refl in
     IfOk-weaker c.answer_request.result _ _
-    (λ response h. Responds-asked c.args.ask.now.format c.args.form c.args.input.now c.args.ask.now.context.now c.args.ask.now.held c.args.nulls asked response e.fine same h)
+    (λ response h. Responds-asked c.args.ask.now.format c.args.form c.args.input.now c.args.ask.now.context.now c.args.ask.now.held c.args.how asked response e.fine same h)
     c.answer_request.ensures

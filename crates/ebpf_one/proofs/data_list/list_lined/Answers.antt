@@ -3,7 +3,7 @@ use Rattle.std.specs.Prelude.{Some}
 use Rattle.std.proofs.lemmas.Result.{IfOk-weaker}
 use Rattle.ebpf_object_file.specs.declared.lines.Line.{Line}
 use Rattle.ebpf_object_file.specs.Shown.{AreHolding}
-use Rattle.ebpf_one.specs.declared.data_list.Headed.{Headed}
+use Rattle.ebpf_one.specs.declared.headed.Headed.{Headed}
 use Rattle.ebpf_one.proofs.data_list.list_lined.Goals as goal
 
 pub returns : goal.returns

@@ -10,4 +10,4 @@ returns-in-Ok c =
     let e = c.in-Ok.ensures in
     let same : asked ≡ asked_for c.args.form c.args.input.now c.args.ask.now.context.now c.args.ask.now.held = rw (e.bytes, e.context, e.declared.1) refl in
     IfOk-weaker c.unroll_request.result _ _
-    (λ response h. Unrolls-asked c.args.ask.now c.args.nulls c.args.function c.args.form c.args.input.now asked response e.fine same h) c.unroll_request.ensures
+    (λ response h. Unrolls-asked c.args.ask.now c.args.how c.args.function c.args.form c.args.input.now asked response e.fine same h) c.unroll_request.ensures

@@ -3,4 +3,4 @@ use Rattle.std.proofs.lemmas.Result.{IfOk-weaker}
 use Rattle.ebpf_one.proofs.unroll.unroll_with_data.Goals as goal
 
 pub returns-in-Ok : goal.returns-in-Ok
-returns-in-Ok c = IfOk-weaker c.unroll_linked.result _ _ (λ response h e. inl (c.in-Ok.linked, c.in-Ok.ensures.found, h)) c.unroll_linked.ensures
+returns-in-Ok c = IfOk-weaker c.unroll_data.result _ _ (λ response h e. inl (c.in-Ok.linked, c.in-Ok.ensures.found, h)) c.unroll_data.ensures

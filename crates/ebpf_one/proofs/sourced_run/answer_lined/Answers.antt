@@ -1,0 +1,18 @@
+use Rattle.std.proofs.Common.{List, Option, length, refl, sym, ap, ◌∙◌, subst}
+use Rattle.std.proofs.lemmas.Result.{IfOk-weaker}
+use Rattle.ebpf_object_file.specs.declared.lines.Line.{Line}
+use Rattle.ebpf_object_file.specs.Shown.{AreHolding}
+use Rattle.ebpf_input.specs.declared.form.Form.TheVariants.{Raw}
+use Rattle.ebpf_one.specs.declared.how.How.{How}
+use Rattle.ebpf_one.specs.OneText.{OneTo}
+use Rattle.ebpf_one.proofs.sourced_run.answer_lined.Goals as goal
+
+pub returns : goal.returns
+returns c = IfOk-weaker c.answer_program.result _ _
+    (λ response h. record {
+      source = record { lines = c.args.lines; holding = c.deref.result };
+      lines = refl;
+      whole = ap length c.deref.ensures.value ∙ c.in_ok-holding.ensures.whole;
+      are = subst (λ (holding : List (Option Line)). AreHolding c.args.lines c.args.function.place.from holding) (sym c.deref.ensures.value) c.in_ok-holding.ensures.held;
+      told = subst (λ (how : How). OneTo c.args.ask.now how Raw c.args.function.code.now response) c.with_source.ensures h;
+    }) c.answer_program.ensures
