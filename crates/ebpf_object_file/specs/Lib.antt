@@ -12,6 +12,7 @@ pub mod Lines
 pub mod Source
 pub mod Outside
 pub mod Function
+pub mod Coded
 pub mod Meant
 pub mod Data
 pub mod DataFunction

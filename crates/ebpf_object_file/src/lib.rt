@@ -8,11 +8,12 @@
 //! bytes, and no table is read more than a few times.
 //!
 //! To be read in this order: `fault`, `field`, `header`, `section`, `text`, `symbol`, `relocation`, `call`, `functions`, `symbol_name`,
-//! `outside`, `object_fault`, `function`, `lines`, `shown`, `slot_lines`, `source`, `holding_line`, `meant`, `marks`, `data_use`,
+//! `outside`, `object_fault`, `function`, `coded`, `lines`, `shown`, `slot_lines`, `source`, `holding_line`, `meant`, `marks`, `data_use`,
 //! `data_function`, `data_parts`, `data_names`.
 #![tactic(auto)]
 
 mod call;
+pub mod coded;
 pub mod data_function;
 pub mod data_names;
 pub mod data_parts;

@@ -1,5 +1,5 @@
 -- What jobs executed, program by program and slot by slot.
-use Rattle.std.proofs.Common.{◌≡◌, ℕ, zero, suc, ◌+◌, ◌<◌, ◌≤◌, List, [], ◌∷◌, ◌++◌, length, drop, get_or, refl, sym, ap, ◌∙◌, append_assoc, arith, Option}
+use Rattle.std.proofs.Common.{◌≡◌, ℕ, zero, suc, ◌+◌, ◌<◌, ◌≤◌, List, [], ◌∷◌, ◌++◌, length, drop, get_or, refl, sym, ap, ◌∙◌, append_assoc, arith, Option, None, slice_index_or}
 use Rattle.std.proofs.lemmas.List.{at_drop_more, append-nil}
 use Rattle.ebpf_insn.specs.declared.insn.Insn.{Insn}
 use Rattle.ebpf_insn.specs.Program.{insn_at}
@@ -10,7 +10,8 @@ use Rattle.ebpf_cover.specs.declared.counts.Counts.{Counts}
 use Rattle.ebpf_cover.specs.Covered.{AreCounts, executed_at, taken_at, executed_in, taken_in}
 use Rattle.ebpf_command.specs.declared.format.Format.{Format}
 use Rattle.ebpf_reader.specs.ParsedScript.{Named}
-use Rattle.ebpf_report.specs.CoveredLines.{covered_in, slots_from, programs_from}
+use Rattle.ebpf_lines.specs.declared.source.Source.{Source}
+use Rattle.ebpf_report.specs.CoveredLines.{covered_in, program_lines, slots_from, programs_from}
 
 -- ---- slots
 
@@ -24,6 +25,11 @@ slots_alike format name executed executed' taken taken' slot (i ∷ slots) same 
 pub slots_counted : (format : Format) (name : List ℕ) (s : Subject) (program : ℕ) (jobs : List Job) (reports : List Report) (c : Counts) → AreCounts s program jobs reports c
     → slots_from format name (executed_at c) (taken_at c) 0 s.program ≡ slots_from format name (executed_in s program jobs reports) (taken_in s program jobs reports) 0 s.program
 slots_counted format name s program jobs reports c h = slots_alike format name (executed_at c) (executed_in s program jobs reports) (taken_at c) (taken_in s program jobs reports) 0 s.program h.executed h.taken
+
+-- and so are those of its lines
+pub lines_counted : (format : Format) (name : List ℕ) (source : Option Source) (s : Subject) (program : ℕ) (jobs : List Job) (reports : List Report) (c : Counts) → AreCounts s program jobs reports c
+    → program_lines format name source (executed_at c) (taken_at c) s.program ≡ program_lines format name source (executed_in s program jobs reports) (taken_in s program jobs reports) s.program
+lines_counted format name source s program jobs reports c h = λ n. program_lines format name source (λ k. h.executed k n) (λ k. h.taken k n) s.program
 
 first_slot : (format : Format) (name : List ℕ) (executed taken : ℕ → ℕ) (k : ℕ) (slots : List (Option Insn)) (at : ℕ) → k < length slots
     → slots_from format name executed taken at (drop k slots) ≡ covered_in format name at (executed at) (taken at) (insn_at slots k) ++ slots_from format name executed taken (at + 1) (drop (k + 1) slots)
@@ -53,38 +59,38 @@ slot_next format name executed taken slot program all text new inside written h 
 
 -- ---- programs
 
-none_left : (format : Format) (jobs : List Job) (reports : List Report) (program : ℕ) (programs : List Named) → programs_from format jobs reports program programs [] ≡ []
+none_left : (format : Format) (sources : List (Option Source)) (jobs : List Job) (reports : List Report) (program : ℕ) (programs : List Named) → programs_from format sources jobs reports program programs [] ≡ []
 unfolding programs_from
-none_left format jobs reports program [] = refl
-none_left format jobs reports program (p ∷ programs) = refl
+none_left format sources jobs reports program [] = refl
+none_left format sources jobs reports program (p ∷ programs) = refl
 
-one_program : (format : Format) (jobs : List Job) (reports : List Report) (program : ℕ) (p : Named) (programs : List Named) (s : Subject) (subjects : List Subject)
-    → programs_from format jobs reports program (p ∷ programs) (s ∷ subjects)
-    ≡ slots_from format p.name (executed_in s program jobs reports) (taken_in s program jobs reports) 0 s.program ++ programs_from format jobs reports (program + 1) programs subjects
+one_program : (format : Format) (sources : List (Option Source)) (jobs : List Job) (reports : List Report) (program : ℕ) (p : Named) (programs : List Named) (s : Subject) (subjects : List Subject)
+    → programs_from format sources jobs reports program (p ∷ programs) (s ∷ subjects)
+    ≡ program_lines format p.name (slice_index_or sources program None) (executed_in s program jobs reports) (taken_in s program jobs reports) s.program ++ programs_from format sources jobs reports (program + 1) programs subjects
 unfolding programs_from
-one_program format jobs reports program p programs s subjects = refl
+one_program format sources jobs reports program p programs s subjects = refl
 
 -- a program more is written
-pub program_next : (format : Format) (jobs : List Job) (reports : List Report) (program : ℕ) (p : Named) (programs : List Named) (s : Subject) (subjects : List Subject) (c : Counts) (all text new : List ℕ)
+pub program_next : (format : Format) (sources : List (Option Source)) (jobs : List Job) (reports : List Report) (program : ℕ) (p : Named) (programs : List Named) (s : Subject) (subjects : List Subject) (c : Counts) (all text new : List ℕ)
     → program < length subjects → get_or subjects program s ≡ s → AreCounts s program jobs reports c
-    → new ≡ text ++ slots_from format p.name (executed_at c) (taken_at c) 0 s.program
-    → text ++ programs_from format jobs reports program (p ∷ programs) (drop program subjects) ≡ all
-    → new ++ programs_from format jobs reports (program + 1) programs (drop (program + 1) subjects) ≡ all
-program_next format jobs reports program p programs s subjects c all text new inside same counts written h =
-    let rest = programs_from format jobs reports (program + 1) programs (drop (program + 1) subjects) in
-    let slots = slots_from format p.name (executed_in s program jobs reports) (taken_in s program jobs reports) 0 s.program in
-    ap (λ (xs : List ℕ). xs ++ rest) (written ∙ ap (λ (xs : List ℕ). text ++ xs) (slots_counted format p.name s program jobs reports c counts))
+    → new ≡ text ++ program_lines format p.name (slice_index_or sources program None) (executed_at c) (taken_at c) s.program
+    → text ++ programs_from format sources jobs reports program (p ∷ programs) (drop program subjects) ≡ all
+    → new ++ programs_from format sources jobs reports (program + 1) programs (drop (program + 1) subjects) ≡ all
+program_next format sources jobs reports program p programs s subjects c all text new inside same counts written h =
+    let rest = programs_from format sources jobs reports (program + 1) programs (drop (program + 1) subjects) in
+    let slots = program_lines format p.name (slice_index_or sources program None) (executed_in s program jobs reports) (taken_in s program jobs reports) s.program in
+    ap (λ (xs : List ℕ). xs ++ rest) (written ∙ ap (λ (xs : List ℕ). text ++ xs) (lines_counted format p.name (slice_index_or sources program None) s program jobs reports c counts))
     ∙ append_assoc text slots rest
-    ∙ ap (λ (xs : List ℕ). text ++ xs) (sym (one_program format jobs reports program p programs s (drop (program + 1) subjects)))
-    ∙ ap (λ (here : Subject). text ++ programs_from format jobs reports program (p ∷ programs) (here ∷ drop (program + 1) subjects)) (sym same)
-    ∙ ap (λ (xs : List ℕ). text ++ xs) (sym (at_drop_more (programs_from format jobs reports program (p ∷ programs)) subjects program s inside))
+    ∙ ap (λ (xs : List ℕ). text ++ xs) (sym (one_program format sources jobs reports program p programs s (drop (program + 1) subjects)))
+    ∙ ap (λ (here : Subject). text ++ programs_from format sources jobs reports program (p ∷ programs) (here ∷ drop (program + 1) subjects)) (sym same)
+    ∙ ap (λ (xs : List ℕ). text ++ xs) (sym (at_drop_more (programs_from format sources jobs reports program (p ∷ programs)) subjects program s inside))
     ∙ h
 
 -- there are no more that were accepted
-pub program_past : (format : Format) (jobs : List Job) (reports : List Report) (program : ℕ) (p : Named) (programs : List Named) (subjects : List Subject) (all text : List ℕ)
-    → length subjects ≤ program → text ++ programs_from format jobs reports program (p ∷ programs) (drop program subjects) ≡ all
-    → text ++ programs_from format jobs reports program programs (drop program subjects) ≡ all
-program_past format jobs reports program p programs subjects all text past h =
+pub program_past : (format : Format) (sources : List (Option Source)) (jobs : List Job) (reports : List Report) (program : ℕ) (p : Named) (programs : List Named) (subjects : List Subject) (all text : List ℕ)
+    → length subjects ≤ program → text ++ programs_from format sources jobs reports program (p ∷ programs) (drop program subjects) ≡ all
+    → text ++ programs_from format sources jobs reports program programs (drop program subjects) ≡ all
+program_past format sources jobs reports program p programs subjects all text past h =
     ap (λ (xs : List ℕ). text ++ xs) (empty programs ∙ sym (empty (p ∷ programs))) ∙ h
   where
     gone : (k : ℕ) (xs : List Subject) → length xs ≤ k → drop k xs ≡ []
@@ -93,14 +99,14 @@ program_past format jobs reports program p programs subjects all text past h =
     gone zero (x ∷ xs) few = absurd (omega (arith, few))
     gone (suc k) (x ∷ xs) few = gone k xs (omega (arith, few))
 
-    empty : (ps : List Named) → programs_from format jobs reports program ps (drop program subjects) ≡ []
-    empty ps = ap (programs_from format jobs reports program ps) (gone program subjects past) ∙ none_left format jobs reports program ps
+    empty : (ps : List Named) → programs_from format sources jobs reports program ps (drop program subjects) ≡ []
+    empty ps = ap (programs_from format sources jobs reports program ps) (gone program subjects past) ∙ none_left format sources jobs reports program ps
 
 -- all are written
-pub programs_done : (format : Format) (jobs : List Job) (reports : List Report) (program : ℕ) (programs : List Named) (subjects : List Subject) (all text : List ℕ)
-    → programs ≡ [] → text ++ programs_from format jobs reports program programs subjects ≡ all → text ≡ all
+pub programs_done : (format : Format) (sources : List (Option Source)) (jobs : List Job) (reports : List Report) (program : ℕ) (programs : List Named) (subjects : List Subject) (all text : List ℕ)
+    → programs ≡ [] → text ++ programs_from format sources jobs reports program programs subjects ≡ all → text ≡ all
 unfolding programs_from
-programs_done format jobs reports program programs subjects all text none h = sym (append-nil text) ∙ ap (λ (ps : List Named). text ++ programs_from format jobs reports program ps subjects) (sym none) ∙ h
+programs_done format sources jobs reports program programs subjects all text none h = sym (append-nil text) ∙ ap (λ (ps : List Named). text ++ programs_from format sources jobs reports program ps subjects) (sym none) ∙ h
 
 -- all slots are written
 pub slots_done : (format : Format) (name : List ℕ) (executed taken : ℕ → ℕ) (slot : ℕ) (program : List (Option Insn)) (all text : List ℕ) → length program ≤ slot

@@ -7,3 +7,4 @@ pub mod ScriptTextLemmas
 pub mod TripleLemmas
 pub mod ObjectLemmas
 pub mod CoveredLemmas
+pub mod SourcesLemmas

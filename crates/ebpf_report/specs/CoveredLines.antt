@@ -1,6 +1,6 @@
 -- What `run --covered` writes: for each program and each slot of an instruction how often all jobs executed it, and for a branch how often
--- it was taken.
-use Rattle.std.specs.Prelude.{ℕ, ◌+◌, ◌++◌, Bool, true, false, List, [], ◌∷◌, codes, decimal, Option, Some, None}
+-- it was taken. Of a program whose lines of C are known, these are written in place of its slots.
+use Rattle.std.specs.Prelude.{◌≡◌, ℕ, ◌+◌, ◌++◌, Bool, true, false, List, [], ◌∷◌, codes, decimal, length, Option, Some, None, slice_get, slice_index_or}
 use Rattle.ebpf_insn.specs.declared.insn.Insn.{Insn}
 use Rattle.ebpf_insn.specs.declared.insn.Insn.TheVariants as insn
 use Rattle.ebpf_text.specs.Listing.{insn_text}
@@ -8,6 +8,13 @@ use Rattle.ebpf_verify.specs.Subject.{Subject}
 use Rattle.ebpf_machine.specs.declared.report.Report.{Report}
 use Rattle.job_list.specs.declared.jobs.Job.{Job}
 use Rattle.ebpf_cover.specs.Covered.{executed_in, taken_in}
+use Rattle.ebpf_lines.specs.declared.source.ObjectFile.{ObjectFile}
+use Rattle.ebpf_lines.specs.declared.source.Source.{Source}
+use Rattle.ebpf_lines.specs.Sources.{IsSourceIn}
+use Rattle.ebpf_explain.specs.StackWords.{texts_below}
+use Rattle.ebpf_lines.specs.SourceText.{source_lines}
+use Rattle.ebpf_lines.specs.Traced.{trace_by}
+use Rattle.ebpf_lines.specs.Tracefile.{trace_sections}
 use Rattle.ebpf_command.specs.declared.format.Format.{Format}
 use Rattle.ebpf_command.specs.declared.format.Format.TheVariants.{Text, Json}
 use Rattle.ebpf_reader.specs.ParsedScript.{Named}
@@ -55,15 +62,49 @@ slots_from format name executed taken slot [] = []
 slots_from format name executed taken slot (i ∷ slots) =
     covered_in format name slot (executed slot) (taken slot) i ++ slots_from format name executed taken (slot + 1) slots
 
--- the programs from this number on, with what the jobs of each executed
-unfoldable pub programs_from : Format → List Job → List Report → ℕ → List Named → List Subject → List ℕ
-programs_from format jobs reports program [] subjects = []
-programs_from format jobs reports program (p ∷ programs) [] = []
-programs_from format jobs reports program (p ∷ programs) (s ∷ subjects) =
-    slots_from format p.name (executed_in s program jobs reports) (taken_in s program jobs reports) 0 s.program
-    ++ programs_from format jobs reports (program + 1) programs subjects
+-- a program: its lines of C if it has some, and otherwise its slots
+abbrev pub program_lines : Format → List ℕ → Option Source → (executed taken : ℕ → ℕ) → List (Option Insn) → List ℕ
+program_lines format name None executed taken p = slots_from format name executed taken 0 p
+program_lines format name (Some s) executed taken p = source_lines format name s.lines s.holding.items executed
 
--- where that is asked for
-abbrev pub covered_lines : Bool → Format → List Named → List Subject → List Job → List Report → List ℕ
-covered_lines true format programs subjects jobs reports = programs_from format jobs reports 0 programs subjects
-covered_lines false format programs subjects jobs reports = []
+-- the programs from this number on, with what the jobs of each executed, by the lines of each
+unfoldable pub programs_from : Format → List (Option Source) → List Job → List Report → ℕ → List Named → List Subject → List ℕ
+programs_from format sources jobs reports program [] subjects = []
+programs_from format sources jobs reports program (p ∷ programs) [] = []
+programs_from format sources jobs reports program (p ∷ programs) (s ∷ subjects) =
+    program_lines format p.name (slice_index_or sources program None) (executed_in s program jobs reports) (taken_in s program jobs reports) s.program
+    ++ programs_from format sources jobs reports (program + 1) programs subjects
+
+-- the lines of C of each of these programs, by an object file if there is one
+unfoldable pub AreSources : Option ObjectFile → List Named → List (Option Source) → Type 0
+AreSources object [] [] = Unit {0}
+AreSources object [] (s ∷ sources) = ⊥
+AreSources object (p ∷ programs) [] = ⊥
+AreSources object (p ∷ programs) (s ∷ sources) = IsSourceIn object p.bytes s × AreSources object programs sources
+
+-- the text of what was covered
+abbrev pub IsCovered : Format → Option ObjectFile → List Named → List Subject → List Job → List Report → List ℕ → Type 0
+IsCovered format object programs subjects jobs reports text =
+    (sources : List (Option Source)) × AreSources object programs sources
+    × (text ≡ programs_from format sources jobs reports 0 programs subjects)
+
+-- ---- a tracefile
+
+abbrev pub trace_if : Option Source → (executed taken : ℕ → ℕ) → List (Option Insn) → List ℕ
+trace_if None executed taken p = []
+trace_if (Some s) executed taken p = trace_sections (trace_by s executed taken p)
+
+abbrev pub trace_in : Option Source → (program : ℕ) → List Job → List Report → Option Subject → List ℕ
+trace_in source program jobs reports None = []
+trace_in source program jobs reports (Some s) = trace_if source (executed_in s program jobs reports) (taken_in s program jobs reports) s.program
+
+-- what is written of the program of a number: nothing if it has no lines
+abbrev pub trace_at : List (Option Source) → List Subject → List Job → List Report → (program : ℕ) → List ℕ
+trace_at sources subjects jobs reports program =
+    trace_in (slice_index_or sources program None) program jobs reports (slice_get subjects program)
+
+-- the tracefile of what was covered
+abbrev pub IsTraced : Option ObjectFile → List Named → List Subject → List Job → List Report → List ℕ → Type 0
+IsTraced object programs subjects jobs reports text =
+    (sources : List (Option Source)) × AreSources object programs sources
+    × (text ≡ texts_below (length subjects) (trace_at sources subjects jobs reports))

@@ -8,10 +8,13 @@
 //! the reader, whose programs it takes.
 //!
 //! To be read in this order: `verdict_text`, `verdicts`, `text_line`, `world_lines`, `world_json`, `world_text`, `exit_line`, `report_form`,
-//! `outcome_text`, `outcome_json`, `totals_text`, `run_answer`, `covered_text`, `stats`, `outcome_stats`, `meter`, `stats_text`, `watch`.
+//! `outcome_text`, `outcome_json`, `totals_text`, `run_answer`, `covered_sources`, `covered_text`, `covered_trace`, `stats`, `outcome_stats`,
+//! `meter`, `stats_text`, `watch`.
 #![tactic(auto)]
 
+mod covered_sources;
 pub mod covered_text;
+pub mod covered_trace;
 pub mod exit_line;
 pub mod meter;
 pub mod outcome_json;

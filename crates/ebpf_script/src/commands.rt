@@ -1,17 +1,18 @@
-//! The commands in plain text: no JSON, no counts of what was executed, and no meter.
+//! The commands in plain text: no JSON, no counts of what was executed, no object file and no meter.
 //!
 //! A caller that wants one of these calls `check_script`, `replay_script` or `run_script`, which do the work.
 
-ghost use Rattle.std.specs.Prelude.{◌≤◌, false};
+ghost use Rattle.std.specs.Prelude.{◌≤◌, false, None};
 ghost use Rattle.ebpf_command.specs.declared.format.Format.TheVariants.{Text};
 ghost use Rattle.ebpf_command.specs.Writing.{Performs};
 ghost use Rattle.ebpf_script.specs.CheckText.{RespondsCheck};
 ghost use Rattle.ebpf_script.specs.ReplayText.{RespondsReplay};
+ghost use Rattle.ebpf_script.specs.declared.run_ask.Coverage.TheVariants.{Nothing};
 ghost use Rattle.ebpf_script.specs.RunText.{RespondsRun};
 
 use crate::check_script::check_script;
 use crate::replay_script::replay_script;
-use crate::run_ask::RunAsk;
+use crate::run_ask::{Coverage, RunAsk};
 use crate::run_script::run_script;
 use ebpf_command::done::{Done, EngineFault};
 use ebpf_command::format::Format;
@@ -69,14 +70,14 @@ pub fn run<R: Threads + Wait + Sync, I: Read, W: Write>(
 ) -> Result<Done, EngineFault>
     requires workers { (1 ≤ workers) × (workers ≤ 64) }
     requires reaps { reaps ≤ 1000 }
-    ensures { Performs (RespondsRun false Text) (I.remaining reader.old) (I.remaining reader.new) (W.contents writer.old) (W.contents writer.new)
+    ensures { Performs (RespondsRun Nothing Text None) (I.remaining reader.old) (I.remaining reader.new) (W.contents writer.old) (W.contents writer.new)
         writer.old writer.new result }
 {
     let ask = RunAsk {
         format: Format::Text,
-        covered: false,
+        covered: Coverage::Nothing,
         workers,
         reaps,
     };
-    run_script(rt, alloc, reader, writer, ask, &mut NoMeter)
+    run_script(rt, alloc, reader, writer, ask, None, &mut NoMeter)
 }
