@@ -5,13 +5,13 @@ import re
 import subprocess
 from typing import NamedTuple
 
-OPTION = re.compile(r'(?:(-\w), )?(--[a-z-]+)(?: <?([A-Z]+)>?)?')
+OPTION = re.compile(r'(?:(-\w), )?(--[a-z-]+)(?:\[=<[A-Z]+>\])?(?: <?([A-Z]+)>?)?')
 
 
 class Option(NamedTuple):
     short: str  # as -h, or nothing
     long: str
-    value: str  # what its value is called, or nothing
+    value: str  # what its value is called, or nothing; also nothing of one that may be left out, after an equals sign
     about: str
 
 

@@ -46,7 +46,7 @@ TESTS = [
     script('edits-tested'), script('edits'), script('must-not-compile'),
     Test('library', ['tests/library/run']),
     Test('build', ['sh', '-c', './ebpf_run --help >/dev/null'], False, 'Builds the program over what is proved.'),
-    *[script(name, True) for name in ('command-line', 'docs', 'commands', 'literals', 'json', 'examples', 'steps', 'graph', 'lay-out', 'compiled', 'loops', 'tables', 'object-files', 'script-of', 'jobs-of', 'orders', 'tallies', 'covered', 'report', 'streams', 'stream')],
+    *[script(name, True) for name in ('command-line', 'docs', 'commands', 'literals', 'json', 'examples', 'steps', 'trace', 'graph', 'lay-out', 'compiled', 'loops', 'tables', 'object-files', 'script-of', 'jobs-of', 'orders', 'tallies', 'covered', 'report', 'streams', 'stream')],
     script('want-of-memory'),
     *[script(name, True) for name in ('large-inputs', 'worst', 'fuzz', 'stats', 'run-many')],
     script('host'), script('install'), script('bindings'), script('unproved'), script('first-call'), script('benches'), script('reading-list'), script('recipes'),

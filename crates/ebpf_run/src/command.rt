@@ -2,11 +2,15 @@
 
 use crate::context::with_context;
 use crate::format::{format_of, json_option};
-use crate::input::{elf_option, function_option, input_of, lines_option, raw_option};
+use crate::input::{
+    elf_option, function_option, input_of, lines_option, object_option, raw_option,
+};
+use crate::progress::{StreamOptions, no_progress_option, progress_of, progress_option};
 use clap::{Arg, ArgAction, ArgMatches, Command, value_parser};
 use ebpf_command::format::Format;
 use ebpf_input::ask::{Ask, Input};
-use ebpf_script::run_ask::RunAsk;
+use ebpf_one::how::How;
+use ebpf_script::run_ask::{Coverage, RunAsk};
 use std::alloc::{AllocError, Global};
 
 // After the help of the program and of `one`.
@@ -55,6 +59,9 @@ const MAX_WORKERS: u32 = 64;
 
 const MAX_REAPS: u32 = 1000;
 
+// The forms in which counts are written: lines after the reports, and a tracefile of lcov.
+const FORMS: [&str; 2] = ["counts", "lcov"];
+
 /// What the command line asks for.
 #[derive(Clone, Copy)]
 pub struct Request<'a> {
@@ -75,8 +82,8 @@ pub enum Task<'a> {
     Assemble,
     Check(CheckOptions),
     Replay(Format),
-    Run(RunOptions),
-    Stream(Format),
+    Run(RunOptions<'a>),
+    Stream(StreamOptions),
 }
 
 /// The options of `one`.
@@ -84,8 +91,8 @@ pub enum Task<'a> {
 pub struct OneOptions<'a> {
     /// The program, and how it is judged and answered.
     pub ask: Ask<'a>,
-    /// Whether each call of `new` is answered null.
-    pub nulls: bool,
+    /// How the program is run.
+    pub how: How<'a>,
     /// Whether the loops of the program are unrolled first.
     pub unroll: bool,
 }
@@ -134,32 +141,73 @@ pub struct CheckOptions {
 
 /// The options of `run`.
 #[derive(Clone, Copy)]
-pub struct RunOptions {
+pub struct RunOptions<'a> {
     /// What is asked of it.
     pub ask: RunAsk,
+    /// The object file whose lines of C are counted, if there is one.
+    pub object: Option<&'a str>,
     /// Whether a table of what the caches and the workers did is printed, in the format of the answer.
     pub stats: bool,
 }
 
+// The commands, in the order in which the help has them.
+#[derive(Clone, Copy)]
+enum Name {
+    One,
+    List,
+    Explain,
+    Graph,
+    LayOut,
+    Unroll,
+    Assemble,
+    Check,
+    Replay,
+    Run,
+    Stream,
+}
+
+const NAMES: [Name; 11] = [
+    Name::One,
+    Name::List,
+    Name::Explain,
+    Name::Graph,
+    Name::LayOut,
+    Name::Unroll,
+    Name::Assemble,
+    Name::Check,
+    Name::Replay,
+    Name::Run,
+    Name::Stream,
+];
+
 /// The commands with their options.
 pub fn command<'a>(alloc: Global) -> Result<Command<'a>, AllocError> {
-    let all = Command::new(alloc, "ebpf_run")
+    let mut all = Command::new(alloc, "ebpf_run")
         .about("Runs small eBPF programs")
         .version("0.1.0")
         .after_help(ONE_EXAMPLE)
         .subcommand_required(true)
         .arg_required_else_help(true);
-    all.subcommand(one_command(alloc)?)?
-        .subcommand(list_command(alloc)?)?
-        .subcommand(explain_command(alloc)?)?
-        .subcommand(graph_command(alloc)?)?
-        .subcommand(lay_out_command(alloc)?)?
-        .subcommand(unroll_command(alloc)?)?
-        .subcommand(assemble_command(alloc)?)?
-        .subcommand(check_command(alloc)?)?
-        .subcommand(replay_command(alloc)?)?
-        .subcommand(run_command(alloc)?)?
-        .subcommand(stream_command(alloc)?)
+    'names: for name in NAMES {
+        all = all.subcommand(command_of(alloc, name)?)?;
+    }
+    Ok(all)
+}
+
+fn command_of<'a>(alloc: Global, name: Name) -> Result<Command<'a>, AllocError> {
+    match name {
+        Name::One => one_command(alloc),
+        Name::List => list_command(alloc),
+        Name::Explain => explain_command(alloc),
+        Name::Graph => graph_command(alloc),
+        Name::LayOut => lay_out_command(alloc),
+        Name::Unroll => unroll_command(alloc),
+        Name::Assemble => assemble_command(alloc),
+        Name::Check => check_command(alloc),
+        Name::Replay => replay_command(alloc),
+        Name::Run => run_command(alloc),
+        Name::Stream => stream_command(alloc),
+    }
 }
 
 fn one_command<'a>(alloc: Global) -> Result<Command<'a>, AllocError> {
@@ -168,6 +216,8 @@ fn one_command<'a>(alloc: Global) -> Result<Command<'a>, AllocError> {
         .after_help(ONE_EXAMPLE)
         .arg(json_option(alloc))?
         .arg(nulls_option(alloc))?
+        .arg(trace_option(alloc))?
+        .arg(lines_option(alloc)?.requires_arg("trace")?)?
         .arg(unroll_option(alloc))?;
     with_judged_program(alloc, one)
 }
@@ -235,6 +285,13 @@ fn nulls_option<'a>(alloc: Global) -> Arg<'a> {
         .long("nulls")
         .action(ArgAction::SetTrue)
         .help("Answers each call of new with null")
+}
+
+fn trace_option<'a>(alloc: Global) -> Arg<'a> {
+    Arg::new(alloc, "trace")
+        .long("trace")
+        .action(ArgAction::SetTrue)
+        .help("Writes each instruction that the run executes, and what it changed")
 }
 
 fn unroll_option<'a>(alloc: Global) -> Arg<'a> {
@@ -307,7 +364,8 @@ fn run_command<'a>(alloc: Global) -> Result<Command<'a>, AllocError> {
     run.arg(workers_option(alloc))?
         .arg(reaps_option(alloc))?
         .arg(stats_option(alloc))?
-        .arg(covered_option(alloc))?
+        .arg(covered_option(alloc)?)?
+        .arg(object_option(alloc)?)?
         .arg(json_option(alloc))?
         .arg(file_argument(alloc))
 }
@@ -318,6 +376,8 @@ fn stream_command<'a>(alloc: Global) -> Result<Command<'a>, AllocError> {
             "Runs the jobs on standard input as they come, with the programs of the script in SCRIPT",
         )
         .after_help(STREAM_EXAMPLE)
+        .arg(progress_option(alloc))?
+        .arg(no_progress_option(alloc)?)?
         .arg(json_option(alloc))?
         .arg(script_argument(alloc))
 }
@@ -354,11 +414,18 @@ fn stats_option<'a>(alloc: Global) -> Arg<'a> {
         .help("Writes to standard error what the caches and the workers did")
 }
 
-fn covered_option<'a>(alloc: Global) -> Arg<'a> {
+fn covered_option<'a>(alloc: Global) -> Result<Arg<'a>, AllocError> {
     Arg::new(alloc, "covered")
         .long("covered")
-        .action(ArgAction::SetTrue)
-        .help("Writes how often each instruction was executed, and each branch taken")
+        .value_name("FORM")
+        .num_args(0..=1)
+        .require_equals(true)
+        .default_missing_value("counts")
+        .value_parser(FORMS.as_slice())
+        .help(
+            "Writes how often each instruction was executed, and each branch taken; with =lcov as a tracefile of lines of C, and nothing else",
+        )
+        .requires_if("lcov", "elf")
 }
 
 /// What the words of the command line ask for, where they are a command; of one program, on the context of this text, which may be made
@@ -369,6 +436,16 @@ pub fn request_of<'c, 'a: 'c>(matches: &ArgMatches<'a>, context: &'c str) -> Opt
         task: task_of(name, given, context)?,
         file: file_of(name, given),
     })
+}
+
+/// Whether they ask for a tracefile in JSON, which has no such form.
+pub fn is_json_tracefile(matches: &ArgMatches<'_>) -> bool {
+    match matches.subcommand() {
+        Some(("run", given)) => {
+            matches!(given.get_str("covered"), Some("lcov")) && given.get_flag("json")
+        }
+        _ => false,
+    }
 }
 
 // The command of this name, with the options that are given.
@@ -384,7 +461,7 @@ fn task_of<'c, 'a: 'c>(name: &str, given: &ArgMatches<'a>, context: &'c str) -> 
         "check" => Some(Task::Check(check_options(given))),
         "replay" => Some(Task::Replay(format_of(given))),
         "run" => Some(Task::Run(run_options(given)?)),
-        "stream" => Some(Task::Stream(format_of(given))),
+        "stream" => Some(Task::Stream(stream_options(given))),
         _ => None,
     }
 }
@@ -414,7 +491,11 @@ fn asked<'c, 'a: 'c>(given: &ArgMatches<'a>, context: &'c str, format: Format) -
 fn one_options<'c, 'a: 'c>(given: &ArgMatches<'a>, context: &'c str) -> OneOptions<'c> {
     OneOptions {
         ask: asked(given, context, format_of(given)),
-        nulls: given.get_flag("nulls"),
+        how: How::new(
+            given.get_flag("nulls"),
+            given.get_flag("trace"),
+            given.get_flag("source"),
+        ),
         unroll: given.get_flag("unroll"),
     }
 }
@@ -454,9 +535,26 @@ fn check_options(given: &ArgMatches<'_>) -> CheckOptions {
     }
 }
 
+// The options of `stream`.
+fn stream_options(given: &ArgMatches<'_>) -> StreamOptions {
+    StreamOptions {
+        format: format_of(given),
+        progress: progress_of(given),
+    }
+}
+
+// What `run` is to say of what jobs executed.
+fn coverage_of(given: &ArgMatches<'_>) -> Coverage {
+    match given.get_str("covered") {
+        None => Coverage::Nothing,
+        Some("lcov") => Coverage::Tracefile,
+        Some(_) => Coverage::Counts,
+    }
+}
+
 // The options of `run`. Each has a value within its bounds, since the parser refuses all others; but no clause says so of what is
 // read here, so the bounds are tested once more.
-fn run_options(given: &ArgMatches<'_>) -> Option<RunOptions> {
+fn run_options<'a>(given: &ArgMatches<'a>) -> Option<RunOptions<'a>> {
     let workers = given.get_one::<u32>("workers")?;
     let reaps = given.get_one::<u32>("reaps")?;
     if workers < 1 || workers > MAX_WORKERS || reaps > MAX_REAPS {
@@ -464,10 +562,11 @@ fn run_options(given: &ArgMatches<'_>) -> Option<RunOptions> {
     }
     let ask = RunAsk {
         format: format_of(given),
-        covered: given.get_flag("covered"),
+        covered: coverage_of(given),
         workers,
         reaps,
     };
     let stats = given.get_flag("stats");
-    Some(RunOptions { ask, stats })
+    let object = given.get_str("elf");
+    Some(RunOptions { ask, object, stats })
 }

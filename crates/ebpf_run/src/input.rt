@@ -31,6 +31,15 @@ pub fn function_option<'a>(alloc: Global) -> Result<Arg<'a>, AllocError> {
         .requires_arg("elf")
 }
 
+/// The option of an object file whose lines of C are counted.
+pub fn object_option<'a>(alloc: Global) -> Result<Arg<'a>, AllocError> {
+    Arg::new(alloc, "elf")
+        .long("elf")
+        .value_name("OBJECT")
+        .help("Counts lines of C in place of the instructions of a function of this object file")
+        .requires_arg("covered")
+}
+
 /// The option of lines of C.
 pub fn lines_option<'a>(alloc: Global) -> Result<Arg<'a>, AllocError> {
     Arg::new(alloc, "source")

@@ -12,7 +12,8 @@
 //!
 //! What `run` writes is such a text for some outcome of the jobs, since threads decide which requests for objects are granted and what is
 //! found on a shelf: that is the contract of [`ebpf_script::run_script::run_script`]. `stream` answers each line of its input, and has its
-//! own contract: [`ebpf_stream::stream::stream`]. These are all that it calls.
+//! own contract: [`ebpf_stream::stream::stream`]; how far it has come is told by [`ebpf_progress`], through which all that it writes goes
+//! unchanged. These are all that it calls.
 #![tactic(auto)]
 
 mod command;
@@ -21,16 +22,18 @@ mod format;
 mod input;
 mod plain;
 mod programs;
+mod progress;
 
-use crate::command::{Request, RunOptions, Task, command, request_of};
+use crate::command::{Request, RunOptions, Task, command, is_json_tracefile, request_of};
 use crate::context::{Context, context_of};
 pub use crate::plain::{list, one};
 use crate::programs::{perform_explain, perform_graph, perform_list, perform_one};
+use crate::progress::{Terminals, stream_on};
 use clap::error::ErrorKind;
 use clap::{ArgMatches, Error};
 use ebpf_assemble::assemble::assemble;
 use ebpf_command::done::{Done, EngineFault};
-use ebpf_command::input::MAX_INPUT;
+use ebpf_command::input::{MAX_INPUT, read_input};
 use ebpf_context::text::{fill_context, read_context};
 use ebpf_one::lay_out::lay_out;
 use ebpf_one::unroll::unroll;
@@ -39,10 +42,9 @@ use ebpf_report::watch::{TABLE_BYTES, Watch};
 use ebpf_script::check_script::check_script;
 use ebpf_script::replay_script::replay_script;
 use ebpf_script::run_script::run_script;
-use ebpf_stream::stream::stream;
 use std::alloc::Global;
 use std::fs::{File, OpenFile};
-use std::io::{Read, Write};
+use std::io::{IsTerminal, Read, Write};
 use std::process::ExitCode;
 use std::rt::{Clock, Env, Files};
 use std::sync::Wait;
@@ -67,8 +69,14 @@ const INPUT_TWICE: &str =
 const TOO_MANY_BYTES: &str =
     "the context has more bytes than '--context-at-most <N>' declares: give a greater N, or fewer bytes";
 
+const JSON_TRACEFILE: &str = "the argument '--covered=lcov' cannot be used with '--json'";
+
 fn main(rt: HostRuntime) -> ExitCode {
-    match run(&rt) {
+    let terminals = Terminals {
+        output: rt.stdout().is_terminal(),
+        errors: rt.stderr().is_terminal(),
+    };
+    match run(&rt, terminals) {
         Ok(status) => ExitCode::from(status),
         Err(fault) => {
             // Nobody is left to tell where standard error is closed too.
@@ -81,6 +89,7 @@ fn main(rt: HostRuntime) -> ExitCode {
 // Does what the command line asks for, and gives the exit status.
 fn run<R: AllocGlobal + Clock + Env + Eprint + Files + Input + Print + Threads + Wait + Sync>(
     rt: &R,
+    terminals: Terminals,
 ) -> Result<u8, EngineFault> {
     let alloc = rt.alloc();
     let words = match env::args(rt) {
@@ -94,31 +103,32 @@ fn run<R: AllocGlobal + Clock + Env + Eprint + Files + Input + Print + Threads +
         Ok(matches) => matches,
         Err(error) => return tell(rt, &error),
     };
-    answer(rt, &matches)
+    answer(rt, &matches, terminals)
 }
 
 // Does what the command line asks for, on the context that it says, and gives the exit status.
 fn answer<R: AllocGlobal + Clock + Eprint + Files + Input + Print + Threads + Wait + Sync>(
     rt: &R,
     matches: &ArgMatches<'_>,
+    terminals: Terminals,
 ) -> Result<u8, EngineFault> {
     match context_of(matches) {
-        Context::Hex(text) => answer_on(rt, matches, Some(text)),
+        Context::Hex(text) => answer_on(rt, matches, Some(text), terminals),
         Context::Filled(text, declared) => {
             let made = fill_context(rt.alloc(), text, declared)?;
-            answer_on(rt, matches, made.as_deref())
+            answer_on(rt, matches, made.as_deref(), terminals)
         }
         Context::File(path, declared) => match open(rt, path) {
             Ok(file) => {
                 let mut file = file;
                 let made = read_context(rt.alloc(), &mut file, declared)?;
-                answer_on(rt, matches, made.as_deref())
+                answer_on(rt, matches, made.as_deref(), terminals)
             }
             Err(error) => tell_unopened(rt, path, &error),
         },
         Context::Input(declared) => {
             let made = read_context(rt.alloc(), &mut rt.reader(), declared)?;
-            answer_on(rt, matches, made.as_deref())
+            answer_on(rt, matches, made.as_deref(), terminals)
         }
         Context::InputOfProgram => tell_mistaken(rt, ErrorKind::ArgumentConflict, INPUT_TWICE),
     }
@@ -130,12 +140,16 @@ fn answer_on<R: AllocGlobal + Clock + Eprint + Files + Input + Print + Threads +
     rt: &R,
     matches: &ArgMatches<'_>,
     context: Option<&str>,
+    terminals: Terminals,
 ) -> Result<u8, EngineFault> {
     let Some(context) = context else {
         return tell_mistaken(rt, ErrorKind::ValueValidation, TOO_MANY_BYTES);
     };
+    if is_json_tracefile(matches) {
+        return tell_mistaken(rt, ErrorKind::ArgumentConflict, JSON_TRACEFILE);
+    }
     match request_of(matches, context) {
-        Some(request) => serve(rt, request),
+        Some(request) => serve(rt, request, terminals),
         None => Ok(MISTAKEN),
     }
 }
@@ -144,14 +158,15 @@ fn answer_on<R: AllocGlobal + Clock + Eprint + Files + Input + Print + Threads +
 fn serve<R: AllocGlobal + Clock + Eprint + Files + Input + Print + Threads + Wait + Sync>(
     rt: &R,
     request: Request<'_>,
+    terminals: Terminals,
 ) -> Result<u8, EngineFault> {
     let Some(path) = request.file else {
-        return perform(rt, &mut rt.reader(), request.task);
+        return perform(rt, &mut rt.reader(), request.task, terminals);
     };
     match open(rt, path) {
         Ok(file) => {
             let mut file = file;
-            perform(rt, &mut file, request.task)
+            perform(rt, &mut file, request.task, terminals)
         }
         Err(error) => tell_unopened(rt, path, &error),
     }
@@ -165,11 +180,10 @@ fn open<R: Files>(rt: &R, path: &str) -> io::Result<R::File> {
 }
 
 // Does a task on an input and standard output, and gives the exit status.
-fn perform<R: AllocGlobal + Clock + Eprint + Input + Print + Threads + Wait + Sync, I: Read>(
-    rt: &R,
-    reader: &mut I,
-    task: Task<'_>,
-) -> Result<u8, EngineFault> {
+fn perform<
+    R: AllocGlobal + Clock + Eprint + Files + Input + Print + Threads + Wait + Sync,
+    I: Read,
+>(rt: &R, reader: &mut I, task: Task<'_>, terminals: Terminals) -> Result<u8, EngineFault> {
     let alloc = rt.alloc();
     let mut writer = io::writer(rt);
     let done = match task {
@@ -184,13 +198,38 @@ fn perform<R: AllocGlobal + Clock + Eprint + Input + Print + Threads + Wait + Sy
             check_script(alloc, reader, &mut writer, options.format, options.explain)
         }
         Task::Replay(format) => replay_script(alloc, reader, &mut writer, format),
-        Task::Run(options) => run_or_advise(rt, reader, &mut writer, options),
-        Task::Stream(format) => stream(alloc, reader, &mut rt.reader(), &mut writer, format),
+        Task::Run(options) => return run_on(rt, reader, &mut writer, options),
+        Task::Stream(options) => stream_on(rt, reader, &mut writer, options, terminals),
     }?;
-    Ok(match done {
+    Ok(status_of(done))
+}
+
+fn status_of(done: Done) -> u8 {
+    match done {
         Done::Clean => 0,
         Done::Refused => 2,
-    })
+    }
+}
+
+// Does the jobs of a script, on the object file that is named, and gives the exit status.
+fn run_on<R: AllocGlobal + Clock + Eprint + Files + Threads + Wait + Sync, I: Read, W: Write>(
+    rt: &R,
+    reader: &mut I,
+    writer: &mut W,
+    options: RunOptions<'_>,
+) -> Result<u8, EngineFault> {
+    let Some(path) = options.object else {
+        return Ok(status_of(run_or_advise(rt, reader, writer, options, None)?));
+    };
+    match open(rt, path) {
+        Ok(file) => {
+            let mut file = file;
+            let object = read_input(rt.alloc(), &mut file)?;
+            let done = run_or_advise(rt, reader, writer, options, Some(&object))?;
+            Ok(status_of(done))
+        }
+        Err(error) => tell_unopened(rt, path, &error),
+    }
 }
 
 // Does the jobs of a script, and prints advice where there is some: what takes a script that is refused because it is too long (S1),
@@ -199,11 +238,12 @@ fn run_or_advise<R: AllocGlobal + Clock + Eprint + Threads + Wait + Sync, I: Rea
     rt: &R,
     reader: &mut I,
     writer: &mut W,
-    options: RunOptions,
+    options: RunOptions<'_>,
+    object: Option<&[u8]>,
 ) -> Result<Done, EngineFault> {
     let workers = options.ask.workers;
     let mut input = reader.take(MOST_READ);
-    let (done, misses) = run_jobs(rt, &mut input, writer, options)?;
+    let (done, misses) = run_jobs(rt, &mut input, writer, options, object)?;
     // The text is written; nobody is left to tell where standard error is closed.
     if input.limit() == 0 {
         let _ = eprintln!(rt;
@@ -224,17 +264,18 @@ fn run_jobs<R: AllocGlobal + Clock + Eprint + Threads + Wait + Sync, I: Read, W:
     rt: &R,
     reader: &mut I,
     writer: &mut W,
-    options: RunOptions,
+    options: RunOptions<'_>,
+    object: Option<&[u8]>,
 ) -> Result<(Done, u128), EngineFault> {
     if !options.stats {
         let mut meter = MissMeter { misses: 0 };
-        let done = run_with(rt, reader, writer, options, &mut meter)?;
+        let done = run_with(rt, reader, writer, options, object, &mut meter)?;
         return Ok((done, meter.misses));
     }
     // Room for the table comes first, so that where there is none nothing is run.
     let mut table = String::with_capacity(rt.alloc(), TABLE_BYTES)?;
     let mut watch = Watch::start(rt);
-    let done = run_with(rt, reader, writer, options, &mut watch)?;
+    let done = run_with(rt, reader, writer, options, object, &mut watch)?;
     watch.write_table(options.ask.format, &mut table)?;
     if eprint!(rt; "{table}").is_err() {
         return Err(EngineFault::Output);
@@ -247,10 +288,11 @@ fn run_with<R: AllocGlobal + Threads + Wait + Sync, I: Read, W: Write, M: Meter>
     rt: &R,
     reader: &mut I,
     writer: &mut W,
-    options: RunOptions,
+    options: RunOptions<'_>,
+    object: Option<&[u8]>,
     meter: &mut M,
 ) -> Result<Done, EngineFault> {
-    run_script(rt, rt.alloc(), reader, writer, options.ask, meter)
+    run_script(rt, rt.alloc(), reader, writer, options.ask, object, meter)
 }
 
 // Prints why a file can't be opened, and gives the exit status.

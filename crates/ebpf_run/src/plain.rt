@@ -1,5 +1,6 @@
-//! The commands `one` and `list` over hex, in plain text: what they are without the options `--raw`, `--elf` and `--json`.
+//! The commands `one` and `list` over hex, in plain text: what they are without the options `--raw`, `--elf`, `--json` and `--trace`.
 
+ghost use Rattle.std.specs.Prelude.{false, None};
 ghost use Rattle.ebpf_command.specs.declared.format.Format.TheVariants.{Text};
 ghost use Rattle.ebpf_command.specs.Writing.{Performs};
 ghost use Rattle.ebpf_input.specs.declared.form.Form.TheVariants.{Hex};
@@ -10,6 +11,7 @@ use ebpf_command::done::{Done, EngineFault};
 use ebpf_command::format::Format;
 use ebpf_input::ask::{Ask, Input};
 use ebpf_input::form::Form;
+use ebpf_one::how::How;
 use ebpf_one::list::list as list_program;
 use ebpf_one::one::one as run_program;
 use std::alloc::Global;
@@ -32,7 +34,7 @@ pub fn one<R: Read, W: Write>(
     held: u8,
     nulls: bool,
 ) -> Result<Done, EngineFault>
-    ensures { Performs (Responds Text Hex context.now held nulls) (R.remaining reader.old) (R.remaining reader.new)
+    ensures { Performs (Responds Text Hex context.now held (record { nulls = nulls; trace = false; lines = false; source = None })) (R.remaining reader.old) (R.remaining reader.new)
         (W.contents writer.old) (W.contents writer.new) writer.old writer.new result }
 {
     let ask = Ask {
@@ -41,7 +43,7 @@ pub fn one<R: Read, W: Write>(
         context,
         held,
     };
-    run_program(alloc, reader, writer, &ask, nulls)
+    run_program(alloc, reader, writer, &ask, How::new(nulls, false, false))
 }
 
 /// Reads a program as hex and writes its instructions, or why its bytes are no program. Its flow is not checked, nor what its

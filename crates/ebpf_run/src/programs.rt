@@ -1,5 +1,5 @@
-//! The commands over one program that are done by one of two functions: `one` and `list` over hex, in plain text, by those of
-//! [`crate::plain`]; `explain` and `graph` by whether loops are unrolled first.
+//! The commands over one program that are done by one of two functions: `one` and `list` over hex, in plain text and without steps, by
+//! those of [`crate::plain`]; `explain` and `graph` by whether loops are unrolled first.
 
 use crate::command::{ExplainOptions, GraphOptions, ListOptions, OneOptions};
 use crate::plain::{list, one};
@@ -22,15 +22,15 @@ pub fn perform_one<R: Read, W: Write>(
     writer: &mut W,
     options: OneOptions<'_>,
 ) -> Result<Done, EngineFault> {
-    let OneOptions { ask, nulls, unroll } = options;
+    let OneOptions { ask, how, unroll } = options;
     if unroll {
-        return one_unrolled(alloc, reader, writer, &ask, nulls);
+        return one_unrolled(alloc, reader, writer, &ask, how);
     }
-    match (ask.input, ask.format) {
-        (Input::Program(Form::Hex), Format::Text) => {
-            one(alloc, reader, writer, ask.context, ask.held, nulls)
+    match (ask.input, ask.format, how.trace) {
+        (Input::Program(Form::Hex), Format::Text, false) => {
+            one(alloc, reader, writer, ask.context, ask.held, how.nulls)
         }
-        _ => run_program(alloc, reader, writer, &ask, nulls),
+        _ => run_program(alloc, reader, writer, &ask, how),
     }
 }
 
