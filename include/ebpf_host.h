@@ -42,6 +42,9 @@
 extern "C" {
 #endif
 
+/* The version of the library that is linked, as EBPF_HOST_VERSION is that of this header: a text such as "0.1.0", which nobody frees. */
+const char *ebpf_host_version(void);
+
 /* How a call ended. */
 typedef uint32_t ebpf_status;
 enum {
@@ -185,6 +188,13 @@ ebpf_status ebpf_program_share(ebpf_program *other, const ebpf_program *program)
 
 /* Frees a handle, which is empty then, and with the last one its program. */
 void ebpf_program_free(ebpf_program *program);
+
+/* What a program is, 0 of an empty handle: how many bytes of context the host gives to each run, without the data of an object file, and how
+ * many objects a run may hold, both as they were declared; and how many slots of eight bytes the program has as it is run, with its loops
+ * unrolled: 1 to 4096. */
+uint32_t ebpf_program_context(const ebpf_program *program);
+uint32_t ebpf_program_held(const ebpf_program *program);
+uint32_t ebpf_program_slots(const ebpf_program *program);
 
 /* Makes a machine, whose objects are on at most `pages` pages of 4,096 bytes, 1 to 256; a page is allocated when it is first needed. What
  * the handle held before is freed. EBPF_PAGES, EBPF_NO_MEMORY. */
@@ -387,6 +397,36 @@ static inline ebpf_status ebpf_worker_take_or_null(ebpf_worker *worker, uint32_t
     return ebpf_worker_take(worker, kind, bytes || length ? bytes : &no_bytes, length, found);
 }
 #define ebpf_worker_take ebpf_worker_take_or_null
+
+/* Writes a context of the length for which a program was loaded into `padded`, which has room for 4096 bytes: `length` given bytes, and zeros
+ * after them. Whether the program takes that many; otherwise nothing is written. */
+static inline bool ebpf_pad(const ebpf_program *program, const uint8_t *context, size_t length, uint8_t *padded) {
+    size_t whole = ebpf_program_context(program);
+    if (length > whole) return false;
+    for (size_t i = 0; i < length; i++) padded[i] = context[i];
+    for (size_t i = length; i < whole; i++) padded[i] = 0;
+    return true;
+}
+
+/* Runs a program as ebpf_machine_run does, on a context that may be shorter than was declared: zeros come after the given bytes, which the
+ * program can't tell from zeros that were given. EBPF_CONTEXT: the context is longer than was declared. */
+static inline ebpf_status ebpf_machine_run_padded(ebpf_machine *machine, const ebpf_program *program, const uint8_t *context,
+                                                  size_t context_length, uint64_t limit, uint64_t *output, size_t output_length,
+                                                  ebpf_report *report) {
+    uint8_t padded[4096];
+    bool fits = ebpf_pad(program, context, context_length, padded); /* otherwise the run is refused */
+    return ebpf_machine_run(machine, program, fits ? padded : context, fits ? ebpf_program_context(program) : context_length, limit, output,
+                            output_length, report);
+}
+
+/* Runs a program as ebpf_worker_run does, on a context that may be shorter, as for ebpf_machine_run_padded. */
+static inline ebpf_status ebpf_worker_run_padded(ebpf_worker *worker, const ebpf_program *program, const uint8_t *context, size_t context_length,
+                                                 uint64_t limit, uint64_t *output, size_t output_length, ebpf_report *report) {
+    uint8_t padded[4096];
+    bool fits = ebpf_pad(program, context, context_length, padded); /* otherwise the run is refused */
+    return ebpf_worker_run(worker, program, fits ? padded : context, fits ? ebpf_program_context(program) : context_length, limit, output,
+                           output_length, report);
+}
 
 #ifdef __cplusplus
 }

@@ -684,6 +684,62 @@ static long each_allocation_of_loops(void) {
     return of_loop + of_refusal;
 }
 
+/* what a program is, of an empty handle and of programs with and without data, loops and objects */
+static void is_about(uint32_t context, uint32_t held, uint32_t slots) {
+    void *word = program.word;
+    assert(ebpf_program_context(&program) == context && ebpf_program_held(&program) == held && ebpf_program_slots(&program) == slots);
+    assert(program.word == word);
+}
+
+static void about(const char *of_tables) {
+    is_about(0, 0, 0);
+    assert(load(EMIT, 1, 0) == EBPF_DONE);
+    is_about(1, 0, 4);
+    assert(load(CELL, 4096, 64) == EBPF_DONE);
+    is_about(4096, 64, strlen(CELL) / 16);
+    assert(load(CELL, 3, 0) == EBPF_REFUSED); /* the one before stays */
+    is_about(4096, 64, strlen(CELL) / 16);
+    unrolls = 1;
+    assert(load(COUNT, 3, 0) == EBPF_DONE && ebpf_program_slots(&program) > strlen(COUNT) / 16);
+    unrolls = 0;
+    read_object(of_tables);
+    assert(load_function("", 16, 5) == EBPF_DONE); /* with data, which is no context of the host's */
+    is_about(16, 5, 9); /* the slots of the function, and the one in front */
+    ebpf_program_free(&program);
+    is_about(0, 0, 0);
+    assert(!strcmp(ebpf_host_version(), EBPF_HOST_VERSION));
+}
+
+/* contexts that are shorter than was declared, on a machine and by a worker: zeros come after them */
+static void padded(void) {
+    ebpf_shared shared = {0};
+    ebpf_worker worker = {0};
+    const uint8_t bytes[] = {0x2a, 1, 2, 3, 4};
+    assert(ebpf_machine_run_padded(&machine, &program, bytes, 0, 9, NULL, 0, &report) == EBPF_EMPTY);
+    assert(ebpf_machine_new(&machine, 1) == EBPF_DONE && ebpf_shared_new(&shared, 1, 1) == EBPF_DONE);
+    assert(ebpf_machine_run_padded(&machine, &program, bytes, 1, 9, NULL, 0, &report) == EBPF_EMPTY);
+    assert(ebpf_worker_run_padded(&worker, &program, bytes, 1, 9, NULL, 0, &report) == EBPF_EMPTY);
+    assert(load(READ, 4, 0) == EBPF_DONE);
+    assert(ebpf_worker_run_padded(&worker, &program, bytes, 1, 9, NULL, 0, &report) == EBPF_EMPTY);
+    assert(ebpf_worker_run_padded(&worker, &program, bytes, 5, 9, NULL, 0, &report) == EBPF_EMPTY);
+    assert(ebpf_worker_open(&worker, &shared) == EBPF_DONE);
+    for (size_t length = 0; length <= 5; length++) {
+        uint64_t word = 0;
+        for (size_t i = 0; i < length && i < 4; i++) word |= (uint64_t)bytes[i] << 8 * i;
+        ebpf_status status = length <= 4 ? EBPF_DONE : EBPF_CONTEXT;
+        mark();
+        assert(ebpf_machine_run_padded(&machine, &program, length ? bytes : NULL, length, 9, NULL, 0, &report) == status);
+        assert(status ? is_marked(&report, sizeof report) : report.exit == word && report.executed == 2);
+        mark();
+        assert(ebpf_worker_run_padded(&worker, &program, length ? bytes : NULL, length, 9, output, 4, &report) == status);
+        assert(status ? is_marked(&report, sizeof report) : report.exit == word && report.executed == 2);
+    }
+    ebpf_worker_close(&worker);
+    ebpf_shared_free(&shared);
+    ebpf_machine_free(&machine);
+    ebpf_program_free(&program);
+}
+
 int main(int count, char **words) {
     assert(count == 8);
     for (unrolls = 1; unrolls >= 0; unrolls--) {
@@ -698,6 +754,8 @@ int main(int count, char **words) {
     a_function_laid_out(words[2]);
     a_function_unrolled(words[6]);
     shares();
+    about(words[3]);
+    padded();
     no_items();
     shelves();
     batches();

@@ -56,6 +56,9 @@ using Room = std::span<std::uint8_t>;
 // A limit that no run reaches, since no program does more instructions. Under it no run is given up, and nothing on a shelf is lost.
 inline constexpr std::uint64_t no_limit = 4096;
 
+// The version of the library that is linked, as "0.1.0".
+[[nodiscard]] inline std::string_view version() noexcept { return ebpf_host_version(); }
+
 // What is its bytes: no pointer, and no view of other bytes.
 template <class T>
 concept Plain = std::is_trivially_copyable_v<T> && !std::is_pointer_v<T> && !std::ranges::view<T>;
@@ -190,6 +193,8 @@ inline void release(ebpf_worker *it) noexcept { ebpf_worker_close(it); }
 
 template <class... Rest> ebpf_status run(ebpf_machine *it, Rest... rest) { return ebpf_machine_run(it, rest...); }
 template <class... Rest> ebpf_status run(ebpf_worker *it, Rest... rest) { return ebpf_worker_run(it, rest...); }
+template <class... Rest> ebpf_status run_padded(ebpf_machine *it, Rest... rest) { return ebpf_machine_run_padded(it, rest...); }
+template <class... Rest> ebpf_status run_padded(ebpf_worker *it, Rest... rest) { return ebpf_worker_run_padded(it, rest...); }
 template <class... Rest> ebpf_status run_batch(ebpf_machine *it, Rest... rest) { return ebpf_machine_run_batch(it, rest...); }
 template <class... Rest> ebpf_status run_batch(ebpf_worker *it, Rest... rest) { return ebpf_worker_run_batch(it, rest...); }
 template <class... Rest> ebpf_status put(ebpf_machine *it, Rest... rest) { return ebpf_machine_put(it, rest...); }
@@ -227,6 +232,9 @@ public:
     // Runs a program. With a limit below no_limit a run may be given up, and what it had taken off a shelf is lost. The numbers that
     // it emits are written as far as there is room: report.outputs may be more than output.size().
     Result<Report> run(const Program &program, Bytes context, std::uint64_t limit = no_limit, std::span<std::uint64_t> output = {});
+
+    // Runs a program on a context that may be shorter than was declared: zeros come after its bytes.
+    Result<Report> run_padded(const Program &program, Bytes context, std::uint64_t limit = no_limit, std::span<std::uint64_t> output = {});
 
     // Runs a program on reports.size() contexts, which are one after another in `contexts`. If a run finds no memory, the error says by
     // done() how many were run before it, and their reports are written.
@@ -290,6 +298,13 @@ public:
             },
             file, declaration);
     }
+
+    // What was declared: how many bytes of context a run takes, and how many objects it may hold. 0 of an empty handle, and so are the slots.
+    [[nodiscard]] std::uint32_t context() const noexcept { return ebpf_program_context(get()); }
+    [[nodiscard]] std::uint32_t held() const noexcept { return ebpf_program_held(get()); }
+
+    // How many slots of eight bytes the program has as it is run, with its loops unrolled: 1 to 4096.
+    [[nodiscard]] std::uint32_t slots() const noexcept { return ebpf_program_slots(get()); }
 
     // A second handle of the same program, which lives as long as either does. Threads may make theirs from one handle at the same time.
     [[nodiscard]] Result<Program> share() const {
@@ -381,6 +396,15 @@ Result<Report> detail::Runner<Raw>::run(const Program &program, Bytes context, s
     Report report;
     ebpf_status status =
         detail::run(this->get(), program.get(), context.data(), context.size(), limit, output.data(), output.size(), &report);
+    if (status != EBPF_DONE) EBPF_HOST_FAIL Error(status);
+    return report;
+}
+
+template <class Raw>
+Result<Report> detail::Runner<Raw>::run_padded(const Program &program, Bytes context, std::uint64_t limit, std::span<std::uint64_t> output) {
+    Report report;
+    ebpf_status status =
+        detail::run_padded(this->get(), program.get(), context.data(), context.size(), limit, output.data(), output.size(), &report);
     if (status != EBPF_DONE) EBPF_HOST_FAIL Error(status);
     return report;
 }

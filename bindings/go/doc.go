@@ -13,4 +13,8 @@
 package ebpfhost
 
 // #cgo LDFLAGS: -lebpf_host
+// #include "glue.h"
 import "C"
+
+// Version is the version of the library that is linked, as 0.1.0.
+func Version() string { return C.GoString(C.ebpfhost_version()) }

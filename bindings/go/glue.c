@@ -83,6 +83,12 @@ ebpf_status ebpfhost_open(ebpfhost_runner **made, ebpfhost_shared *shared) {
     return status;
 }
 
+const char *ebpfhost_version(void) { return ebpf_host_version(); }
+
+uint32_t ebpfhost_context(const ebpfhost_program *program) { return ebpf_program_context(program_of(program)); }
+uint32_t ebpfhost_held(const ebpfhost_program *program) { return ebpf_program_held(program_of(program)); }
+uint32_t ebpfhost_slots(const ebpfhost_program *program) { return ebpf_program_slots(program_of(program)); }
+
 void ebpfhost_free_program(ebpfhost_program *program) {
     ebpf_program_free(program_of(program));
     free(program);
@@ -106,6 +112,15 @@ ebpf_status ebpfhost_run(ebpfhost_runner *runner, const ebpfhost_program *progra
         return ebpf_worker_run(&by->worker, program_of(program), context, context_length, limit, output, output_length, report);
     }
     return ebpf_machine_run(&by->machine, program_of(program), context, context_length, limit, output, output_length, report);
+}
+
+ebpf_status ebpfhost_run_padded(ebpfhost_runner *runner, const ebpfhost_program *program, const uint8_t *context, size_t context_length,
+                                uint64_t limit, uint64_t *output, size_t output_length, ebpf_report *report) {
+    struct runner *by = runner_of(runner);
+    if (by->is_worker) {
+        return ebpf_worker_run_padded(&by->worker, program_of(program), context, context_length, limit, output, output_length, report);
+    }
+    return ebpf_machine_run_padded(&by->machine, program_of(program), context, context_length, limit, output, output_length, report);
 }
 
 ebpf_status ebpfhost_run_batch(ebpfhost_runner *runner, const ebpfhost_program *program, const uint8_t *contexts, size_t contexts_length,

@@ -22,8 +22,18 @@ void ebpfhost_free_program(ebpfhost_program *program);
 void ebpfhost_free_runner(ebpfhost_runner *runner);
 void ebpfhost_free_shared(ebpfhost_shared *shared);
 
+/* The library's version. */
+const char *ebpfhost_version(void);
+
+/* What a program is. */
+uint32_t ebpfhost_context(const ebpfhost_program *program);
+uint32_t ebpfhost_held(const ebpfhost_program *program);
+uint32_t ebpfhost_slots(const ebpfhost_program *program);
+
 ebpf_status ebpfhost_run(ebpfhost_runner *runner, const ebpfhost_program *program, const uint8_t *context, size_t context_length, uint64_t limit,
                          uint64_t *output, size_t output_length, ebpf_report *report);
+ebpf_status ebpfhost_run_padded(ebpfhost_runner *runner, const ebpfhost_program *program, const uint8_t *context, size_t context_length,
+                                uint64_t limit, uint64_t *output, size_t output_length, ebpf_report *report);
 ebpf_status ebpfhost_run_batch(ebpfhost_runner *runner, const ebpfhost_program *program, const uint8_t *contexts, size_t contexts_length,
                                uint64_t limit, ebpf_report *reports, size_t count, size_t *done);
 ebpf_status ebpfhost_put(ebpfhost_runner *runner, uint32_t kind, const uint8_t *bytes, size_t length, bool *replaced);

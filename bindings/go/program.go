@@ -22,6 +22,8 @@ type Program struct {
 	handle  atomic.Pointer[C.ebpfhost_program] // nil once it is closed
 	number  uint64                             // by which a seat says that it runs this program
 	sharing sync.Mutex                         // held while the handle is shared or closed
+
+	context, held, slots int
 }
 
 // Load verifies raw instruction slots, eight bytes each, as the text section of an object file has them.
@@ -76,8 +78,18 @@ func (p *Program) Close() error {
 	return nil
 }
 
+// Context is how many bytes of context a run takes, as was declared.
+func (p *Program) Context() int { return p.context }
+
+// Held is how many objects a run may hold at one time, as was declared.
+func (p *Program) Held() int { return p.held }
+
+// Slots is how many slots of eight bytes the program has as it is run, with its loops unrolled: 1 to 4096.
+func (p *Program) Slots() int { return p.slots }
+
 func newProgram(handle *C.ebpfhost_program) *Program {
 	p := &Program{number: newNumber()}
+	p.context, p.held, p.slots = int(C.ebpfhost_context(handle)), int(C.ebpfhost_held(handle)), int(C.ebpfhost_slots(handle))
 	p.handle.Store(handle)
 	runtime.SetFinalizer(p, (*Program).Close)
 	return p

@@ -46,6 +46,32 @@ func TestRefusals(t *testing.T) {
 	}
 }
 
+// What a program is, as it was declared and as it is run, also of one that is closed.
+func TestAbout(t *testing.T) {
+	program, err := Load(slotsOf(t, read), Declaration{Context: 4, Held: 3})
+	if err != nil || program.Close() != nil {
+		t.Fatal(err)
+	}
+	is(t, [3]int{program.Context(), program.Held(), program.Slots()}, [3]int{4, 3, 2})
+	is(t, strings.Count(Version(), "."), 2)
+}
+
+// Contexts that are shorter than was declared, and one that is longer.
+func TestPadded(t *testing.T) {
+	machine, shared, program := must(NewMachine(1))(t), must(NewShared(1, 1))(t), loaded(t, read, 4, 0)
+	worker := must(shared.Open())(t)
+	for length, exit := range []uint64{0, 1, 0x201, 0x30201, 0x4030201} {
+		for _, run := range []func(*Program, []byte) (Report, error){machine.RunPadded, worker.RunPadded} {
+			is(t, must(run(program, []byte{1, 2, 3, 4, 5}[:length]))(t).Exit, exit)
+		}
+	}
+	_, err := machine.RunPadded(program, make([]byte, 5))
+	is(t, errors.Is(err, ErrContext), true)
+	program.Close()
+	_, err = machine.RunPadded(program, nil)
+	is(t, errors.Is(err, ErrClosed), true)
+}
+
 // A loop that can't be unrolled, with many branches that lead out of it: each is a line of a text that is longer than the first buffer.
 func TestLongRefusal(t *testing.T) {
 	const branches = 40

@@ -89,6 +89,23 @@ func (r *runner) Run(program *Program, context []byte) (report Report, err error
 	return
 }
 
+// RunPadded runs a program on a context that may be shorter than was declared, to its end: zeros come after its bytes.
+//
+// It fails as Run does, with ErrContext if the context is longer.
+func (r *runner) RunPadded(program *Program, context []byte) (report Report, err error) {
+	handle, err := r.begin(program)
+	if err != nil {
+		return
+	}
+	defer r.leave(program)
+	status := C.ebpfhost_run_padded(r.handle, handle, first(context), C.size_t(len(context)), NoLimit, nil, 0,
+		(*C.ebpf_report)(unsafe.Pointer(&r.report)))
+	if status == C.EBPF_DONE {
+		report = r.report
+	}
+	return report, failure(status)
+}
+
 // RunWithin runs a program on a context, that many instructions at most, and writes the numbers that it emits to output, as far as there is room.
 //
 // A run that has not exited by then is given up, which is no error. What it had taken off a shelf is lost then, so a limit less than NoLimit is

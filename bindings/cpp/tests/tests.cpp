@@ -106,6 +106,30 @@ void refusals(const char *path) {
     assert(why.code() == "O2" && why.sentence() == "the file has no function of that name; it has checksum, largest");
 }
 
+// What a program is, as it was declared and as it is run.
+void is_about() {
+    const Program program = load(READ, 4, 3);
+    assert(program.context() == 4 && program.held() == 3 && program.slots() == 2);
+    const Program none;
+    assert(none.context() == 0 && none.held() == 0 && none.slots() == 0);
+    assert(ebpf::version() == EBPF_HOST_VERSION);
+}
+
+// Contexts that are shorter than was declared, and one that is longer.
+void is_padded() {
+    const Program program = load(READ, 4, 0);
+    const std::vector<std::uint8_t> bytes = {1, 2, 3, 4, 5};
+    Machine machine = Machine::create(1);
+    Shared shared = Shared::create(1, 1);
+    Worker worker = shared.open();
+    const std::uint64_t exits[] = {0, 1, 0x201, 0x30201, 0x4030201};
+    for (std::size_t length = 0; length < 5; length++) {
+        ebpf::Bytes context(bytes.data(), length);
+        assert(machine.run_padded(program, context).exit == exits[length] && worker.run_padded(program, context).exit == exits[length]);
+    }
+    assert(status_of([&] { machine.run_padded(program, bytes); }) == EBPF_CONTEXT);
+}
+
 // A slot without a number, as hex.
 std::string slot(int code, int registers, int offset) {
     char digits[17];
@@ -431,6 +455,8 @@ void batches_without_memory() {
 int main(int count, char **words) {
     assert(count == 4);
     refusals(words[1]);
+    is_about();
+    is_padded();
     a_long_text();
     loads(words[1], words[2]);
     empty_handles();

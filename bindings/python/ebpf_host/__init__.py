@@ -7,6 +7,7 @@ Threads: a `Program` may be used by any number of threads at once. Calls on one 
 of Python go on while programs are loaded and during batches; a single run is too short for that.
 """
 
+from ebpf_host import _library
 from ebpf_host.errors import (
     Busy,
     Closed,
@@ -27,7 +28,13 @@ from ebpf_host.shared import Shared, Worker
 
 __version__ = "0.1.0"
 
+
+def library_version() -> str:
+    """The version of the library that was loaded, as `__version__` is that of this package."""
+    return _library.host_version().decode()
+
+
 __all__ = [
     "Busy", "Closed", "EbpfError", "Kind", "KindTotals", "Machine", "NoMemory", "NoObject", "OutOfRange", "Program", "Refused", "Report",
-    "Reports", "Shared", "Status", "TooLong", "Totals", "UnknownKind", "Worker", "WrongLength",
+    "Reports", "Shared", "Status", "TooLong", "Totals", "UnknownKind", "Worker", "WrongLength", "library_version",
 ]

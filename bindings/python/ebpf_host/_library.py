@@ -7,7 +7,7 @@ import ctypes
 import mmap
 import operator
 import os
-from ctypes import POINTER, c_bool, c_char, c_size_t, c_uint32, c_uint64, c_void_p
+from ctypes import POINTER, c_bool, c_char, c_char_p, c_size_t, c_uint32, c_uint64, c_void_p
 from typing import Any, Union
 
 from ebpf_host.errors import Status, error_of
@@ -99,6 +99,10 @@ program_load = _function("ebpf_program_load", _PROGRAM, *_BYTES, *_SAYING)
 program_load_unrolled = _function("ebpf_program_load_unrolled", _PROGRAM, *_BYTES, *_SAYING)
 program_load_elf = _function("ebpf_program_load_elf", _PROGRAM, *_BYTES, *_BYTES, *_SAYING)
 program_load_elf_unrolled = _function("ebpf_program_load_elf_unrolled", _PROGRAM, *_BYTES, *_BYTES, *_SAYING)
+program_context = _function("ebpf_program_context", _PROGRAM)
+program_held = _function("ebpf_program_held", _PROGRAM)
+program_slots = _function("ebpf_program_slots", _PROGRAM)
+host_version = _function("ebpf_host_version", result=c_char_p)
 machine_new = _function("ebpf_machine_new", _MACHINE, c_uint32)
 machine_reap = _function("ebpf_machine_reap", _MACHINE)
 machine_run = _run_of("ebpf_machine_run")

@@ -55,14 +55,17 @@ class Runner:
         self._report = ctypes.create_string_buffer(REPORT.size)
         self._answers = ctypes.byref(self._output), _ROOM, ctypes.byref(self._report)
 
-    def run(self, program: Program, context: Buffer = b"", limit: int = MOST) -> Report:
-        """Runs a program on a context of the length for which it was loaded, `limit` instructions at most.
+    def run(self, program: Program, context: Buffer = b"", limit: int = MOST, *, pad: bool = False) -> Report:
+        """Runs a program on a context of the length for which it was loaded, `limit` instructions at most. With `pad` the context may be shorter:
+        zeros come after it.
 
         A run that has not exited by then is given up, and takes with it what it had taken off a shelf; with 4,096, which is the default, none
         is. Raises `WrongLength`, `Closed` or `NoMemory`, and then nothing was run.
         """
         if type(context) is not bytes:
             context = small(context)
+        if pad:
+            context = context.ljust(program._context, b"\0")
         length = program._length if len(context) == program._context else ctypes.c_size_t(len(context))
         most = _LIMIT if limit == MOST else ctypes.c_uint64(_within(limit))
         with self._lock:

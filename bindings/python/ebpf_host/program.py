@@ -48,7 +48,7 @@ class Program:
     `Refused` says why bytes are no program that can be run.
     """
 
-    __slots__ = ("_handle", "_context", "_length", "_held", "__weakref__")
+    __slots__ = ("_handle", "_context", "_length", "_held", "_slots", "__weakref__")
 
     def __init__(self, slots: Buffer, context: int = 0, held: int = 0, *, unroll: bool = False) -> None:
         function = _library.program_load_unrolled if unroll else _library.program_load
@@ -69,7 +69,8 @@ class Program:
         """Holds the program that a function of the library makes of a source."""
         declared = number(context, Status.DECLARATION), number(held, Status.DECLARATION)
         self._handle = _load(function, *source, *declared)
-        self._context, self._held = declared
+        self._context, self._held = _library.program_context(self._handle), _library.program_held(self._handle)
+        self._slots = _library.program_slots(self._handle)
         self._length = ctypes.c_size_t(context)
 
     @property
@@ -81,6 +82,11 @@ class Program:
     def held(self) -> int:
         """How many objects a run may hold at one time."""
         return self._held
+
+    @property
+    def slots(self) -> int:
+        """How many slots of eight bytes the program has as it is run, with its loops unrolled: 1 to 4096."""
+        return self._slots
 
     def close(self) -> None:
         """Frees the program, once no thread runs it. Later runs of it raise `Closed`."""

@@ -46,5 +46,5 @@ class Header(unittest.TestCase):
 
     def test_version(self):
         version = re.search(r'EBPF_HOST_VERSION "(.*)"', HEADER)[1]
-        self.assertEqual(ebpf_host.__version__, version)
+        self.assertEqual({ebpf_host.__version__, ebpf_host.library_version()}, {version})
         self.assertEqual(_library.SONAME, f"libebpf_host.so.{version.partition('.')[0]}")

@@ -6,7 +6,7 @@ from unittest import mock
 
 from samples import COUNT, EMIT, ENDLESS, OBJECTS, READ, SEVEN, TOP
 
-from ebpf_host import Closed, EbpfError, Machine, OutOfRange, Program, Refused, Status, program
+from ebpf_host import Closed, EbpfError, Machine, OutOfRange, Program, Refused, Status, WrongLength, program
 
 NUMBERS = bytes.fromhex("01000000050000000300000004000000")
 
@@ -45,9 +45,18 @@ class Loads(unittest.TestCase):
         for function in ("checksum", "largest"):
             self.assertTrue(Program.from_elf(OBJECTS / "two.o", function, 16, unroll=True))
 
+    def test_short_contexts(self):
+        loaded = Program(READ, context=4)
+        for length, number in enumerate((0, 1, 0x201, 0x30201, 0x4030201)):
+            for context in (bytes(range(1, length + 1)), bytearray(range(1, length + 1))):
+                self.assertEqual(self.machine.run(loaded, context, pad=True).exit, number)
+        self.assertRaises(WrongLength, self.machine.run, loaded, b"12345", pad=True)
+        self.assertRaises(WrongLength, self.machine.run, loaded, b"123")
+
     def test_what_is_declared(self):
         loaded = Program(EMIT, context=1, held=3)
-        self.assertEqual((loaded.context, loaded.held), (1, 3))
+        self.assertEqual((loaded.context, loaded.held, loaded.slots), (1, 3, 4))
+        self.assertGreater(Program(COUNT, unroll=True).slots, 4)
         for context, held in ((4097, 0), (4, 65), (2**32 - 1, 0), (2**32, 0), (0, 2**32), (2**64, 0), (-1, 0), (0, -1)):
             with self.assertRaises(OutOfRange) as caught:
                 Program(READ, context, held)

@@ -5,11 +5,18 @@
 
 #![allow(unsafe_code)]
 
+use std::ffi::CStr;
 use std::mem::MaybeUninit;
 use std::ptr::null_mut;
 
 use crate::report::{Report, Totals};
 use crate::sys::{self, ebpf_machine, ebpf_program, ebpf_refusal, ebpf_shared, ebpf_status, ebpf_worker, EBPF_DONE};
+
+/// The text of the library's version.
+pub(crate) fn version() -> &'static str {
+    // SAFETY: the library keeps the text as long as it is loaded, which is until the end of this process, and a zero ends it.
+    unsafe { CStr::from_ptr(sys::ebpf_host_version()) }.to_str().unwrap_or_default()
+}
 
 /// A handle of C.
 pub(crate) trait Raw {
@@ -96,6 +103,21 @@ impl Handle<ebpf_program> {
             // SAFETY: each pointer is of a reference, or of a slice with its length.
             unsafe { call(raw, bytes.as_ptr(), bytes.len(), name, name_length, context, held, text.as_mut_ptr().cast(), text.len(), refusal) }
         })
+    }
+
+    pub(crate) fn context(&self) -> u32 {
+        // SAFETY: the pointer is of a reference, and so in the next two.
+        unsafe { sys::ebpf_program_context(&self.0) }
+    }
+
+    pub(crate) fn held(&self) -> u32 {
+        // SAFETY: as above.
+        unsafe { sys::ebpf_program_held(&self.0) }
+    }
+
+    pub(crate) fn slots(&self) -> u32 {
+        // SAFETY: as above.
+        unsafe { sys::ebpf_program_slots(&self.0) }
     }
 
     /// A second handle of the same program.

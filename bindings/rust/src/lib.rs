@@ -45,6 +45,12 @@ mod report;
 mod shared;
 mod sys;
 
+/// The version of the library that is linked, as `0.1.0`.
+#[doc(alias = "ebpf_host_version")]
+pub fn version() -> &'static str {
+    handle::version()
+}
+
 pub use error::{BatchError, CloseError, Error, Refused};
 pub use kind::Kind;
 pub use machine::{Machine, Worker, NO_LIMIT};

@@ -11,6 +11,9 @@ use crate::{Kind, Program};
 /// The most instructions that a program does. Under this limit no run is given up, and nothing on a shelf is lost.
 pub const NO_LIMIT: u64 = 4096;
 
+/// The most bytes of a context.
+const MOST_CONTEXT: usize = 4096;
+
 /// What a call gives, if its status is done.
 pub(crate) fn when_done<T>(status: u32, value: T) -> Result<T, Error> {
     match status {
@@ -59,6 +62,23 @@ macro_rules! runs {
             #[inline]
             pub fn run(&mut self, program: &Program, context: &[u8]) -> Result<Report, Error> {
                 self.run_within(program, context, NO_LIMIT, &mut [])
+            }
+
+            /// Runs a program on a context that may be shorter than was declared, to its end: zeros come after its bytes.
+            ///
+            /// # Errors
+            ///
+            /// [`Error::Context`] if it is longer, [`Error::NoMemory`].
+            #[doc(alias = "ebpf_machine_run_padded")]
+            pub fn run_padded(&mut self, program: &Program, context: &[u8]) -> Result<Report, Error> {
+                let mut padded = [0; MOST_CONTEXT];
+                match padded.get_mut(..program.context() as usize) {
+                    Some(whole) if context.len() <= whole.len() => {
+                        whole[..context.len()].copy_from_slice(context);
+                        self.run(program, whole)
+                    }
+                    _ => self.run(program, context), // which is refused
+                }
             }
 
             /// Runs a program on a context, that many instructions at most, and writes the numbers that it emits, as far as there is room.

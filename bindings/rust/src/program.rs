@@ -90,6 +90,24 @@ impl Program {
         judged(file, declaration, true, |ask| Handle::load_elf(ask, function.unwrap_or_default()))
     }
 
+    /// How many bytes of context a run takes, as was declared.
+    #[doc(alias = "ebpf_program_context")]
+    pub fn context(&self) -> u32 {
+        self.0.context()
+    }
+
+    /// How many objects a run may hold at one time, as was declared.
+    #[doc(alias = "ebpf_program_held")]
+    pub fn held(&self) -> u32 {
+        self.0.held()
+    }
+
+    /// How many slots of eight bytes the program has as it is run, with its loops unrolled: 1 to 4096.
+    #[doc(alias = "ebpf_program_slots")]
+    pub fn slots(&self) -> u32 {
+        self.0.slots()
+    }
+
     /// A second handle of the same program, which is not verified again. The program lives as long as either handle.
     ///
     /// # Errors

@@ -68,6 +68,10 @@ loads! {
 }
 
 extern "C" {
+    pub(crate) fn ebpf_host_version() -> *const c_char;
+    pub(crate) fn ebpf_program_context(program: *const ebpf_program) -> u32;
+    pub(crate) fn ebpf_program_held(program: *const ebpf_program) -> u32;
+    pub(crate) fn ebpf_program_slots(program: *const ebpf_program) -> u32;
     pub(crate) fn ebpf_program_share(other: *mut ebpf_program, program: *const ebpf_program) -> ebpf_status;
     pub(crate) fn ebpf_program_free(program: *mut ebpf_program);
 

@@ -35,6 +35,31 @@ fn refusals() {
     assert_eq!((why.code(), why.sentence()), ("O2", "the file has no function of that name; it has checksum, largest"));
 }
 
+/// What a program is, as it was declared and as it is run.
+#[test]
+fn about() {
+    let program = load(READ, 4, 3).expect("it is accepted");
+    assert_eq!((program.context(), program.held(), program.slots()), (4, 3, 2));
+    let unrolled = Program::load_elf_unrolled(LOOP_OBJECT, None, declared(4, 0)).expect("it is accepted");
+    assert!(unrolled.slots() > 8 && unrolled.context() == 4);
+    assert_eq!(ebpf_host::version(), env!("CARGO_PKG_VERSION"));
+}
+
+/// Contexts that are shorter than was declared, and one that is longer.
+#[test]
+fn padded() {
+    let program = load(READ, 4, 0).expect("it is accepted");
+    let mut machine = Machine::new(1).expect("there is memory");
+    let mut worker = Shared::new(1, 1).and_then(|mut shared| shared.open()).expect("there is memory");
+    for (length, exit) in [0, 1, 0x201, 0x3_0201, 0x403_0201].into_iter().enumerate() {
+        let context = &[1, 2, 3, 4, 5][..length];
+        assert_eq!(machine.run_padded(&program, context).map(|report| report.exit), Ok(exit));
+        assert_eq!(worker.run_padded(&program, context).map(|report| report.exit), Ok(exit));
+    }
+    assert_eq!(machine.run_padded(&program, &[0; 5]).map(|report| report.exit), Err(Error::Context));
+    assert_eq!(machine.run_padded(&program, &[0; 5000]).map(|report| report.exit), Err(Error::Context));
+}
+
 /// Each error is in words as the C header has it.
 #[test]
 fn words() {

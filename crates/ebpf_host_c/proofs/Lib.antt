@@ -3,3 +3,4 @@ pub mod InTurn
 pub mod InRange
 pub mod Holding
 pub mod Unloading
+pub mod Viewing
