@@ -49,6 +49,11 @@ def is_as_given(words):
     return b'--unroll' not in words
 
 
+def is_traced(words):
+    """Whether a call writes steps before what a run did."""
+    return any(word.startswith(b'--trace') for word in words)
+
+
 def plain(part):
     """The bytes of a part without braces."""
     if not re.fullmatch(r'(?:[^\\{}]|\\[ntr\\]|\\x[0-9a-fA-F]{2})*', part):

@@ -12,13 +12,14 @@ use ebpf_command::format::Format;
 use ebpf_machine::report::Report;
 use ebpf_machine::run::Run;
 use ebpf_shelves::store::Store;
-use ebpf_steps::step::trace_step;
+use ebpf_steps::choice::Choice;
+use ebpf_steps::step::{step_chosen, write_step_at};
 use ebpf_verify::verified::Verified;
 use std::alloc::{AllocError, Global};
 
-/// Runs an accepted program on a context to its exit, as [`crate::alone::run_alone`] does, and writes each instruction that it executes after
-/// a text, with what the instruction changed, and before
-/// it the line of C that holds there, if that is known and another one held before.
+/// Runs an accepted program on a context to its exit, as [`crate::alone::run_alone`] does, and writes each chosen instruction that it executes
+/// after a text, with what the instruction changed. Before it is the line of C that holds there, if that is known and another one held at the
+/// instruction that was written last.
 ///
 /// # Errors
 /// It fails only where an allocation fails: that of the run, of an object or of the text.
@@ -29,11 +30,12 @@ pub(crate) fn run_in_steps(
     verified: &Verified,
     context: Vec<u8>,
     how: How<'_>,
+    choice: Choice,
 ) -> Result<Report, AllocError>
     requires declared { verified.now.decl.context ≡ length context.items }
     requires kinds { kinds_of verified.now.rows ≡ known_kinds }
     ensures report { IfOk result (IsReportWith verified.now context.items how.entry.nulls) }
-    ensures steps { IfOk result (λ r. string_bytes text.new ≡ string_bytes text.old ++ steps_of format how.entry.source verified.now context.items how.entry.nulls r.executed) }
+    ensures steps { IfOk result (λ r. string_bytes text.new ≡ string_bytes text.old ++ steps_of format choice how.entry.source verified.now context.items how.entry.nulls r.executed) }
 {
     let mut store = Store::new(alloc, how.nulls);
     let Ok(mut run) = Run::start(alloc, verified, context) else {
@@ -42,9 +44,11 @@ pub(crate) fn run_in_steps(
     let mut last = None;
     'steps: while run.exit().is_none() {
         let slot = run.pc();
-        write_heading_after(format, text, how.source, last, slot)?;
-        trace_step(text, format, verified, &mut run, &mut store)?;
-        last = Some(slot);
+        if step_chosen(choice, verified, &mut run, &mut store) {
+            write_heading_after(format, text, how.source, last, slot)?;
+            write_step_at(text, format, verified, slot, &run)?;
+            last = Some(slot);
+        }
     }
     let report = run.finish(&mut store);
     if store.is_short() {

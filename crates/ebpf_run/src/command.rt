@@ -6,6 +6,7 @@ use crate::input::{
     elf_option, function_option, input_of, lines_option, object_option, raw_option,
 };
 use crate::progress::{StreamOptions, no_progress_option, progress_of, progress_option};
+use crate::trace::{shown_of, with_trace};
 use clap::{Arg, ArgAction, ArgMatches, Command, value_parser};
 use ebpf_command::format::Format;
 use ebpf_input::ask::{Ask, Input};
@@ -215,8 +216,8 @@ fn one_command<'a>(alloc: Global) -> Result<Command<'a>, AllocError> {
         .about("Runs a program once")
         .after_help(ONE_EXAMPLE)
         .arg(json_option(alloc))?
-        .arg(nulls_option(alloc))?
-        .arg(trace_option(alloc))?
+        .arg(nulls_option(alloc))?;
+    let one = with_trace(alloc, one)?
         .arg(lines_option(alloc)?.requires_arg("trace")?)?
         .arg(unroll_option(alloc))?;
     with_judged_program(alloc, one)
@@ -285,13 +286,6 @@ fn nulls_option<'a>(alloc: Global) -> Arg<'a> {
         .long("nulls")
         .action(ArgAction::SetTrue)
         .help("Answers each call of new with null")
-}
-
-fn trace_option<'a>(alloc: Global) -> Arg<'a> {
-    Arg::new(alloc, "trace")
-        .long("trace")
-        .action(ArgAction::SetTrue)
-        .help("Writes each instruction that the run executes, and what it changed")
 }
 
 fn unroll_option<'a>(alloc: Global) -> Arg<'a> {
@@ -493,7 +487,7 @@ fn one_options<'c, 'a: 'c>(given: &ArgMatches<'a>, context: &'c str) -> OneOptio
         ask: asked(given, context, format_of(given)),
         how: How::new(
             given.get_flag("nulls"),
-            given.get_flag("trace"),
+            shown_of(given),
             given.get_flag("source"),
         ),
         unroll: given.get_flag("unroll"),

@@ -23,6 +23,7 @@ mod input;
 mod plain;
 mod programs;
 mod progress;
+mod trace;
 
 use crate::command::{Request, RunOptions, Task, command, is_json_tracefile, request_of};
 use crate::context::{Context, context_of};

@@ -34,7 +34,7 @@ pub fn one<R: Read, W: Write>(
     held: u8,
     nulls: bool,
 ) -> Result<Done, EngineFault>
-    ensures { Performs (Responds Text Hex context.now held (record { nulls = nulls; trace = false; lines = false; source = None })) (R.remaining reader.old) (R.remaining reader.new)
+    ensures { Performs (Responds Text Hex context.now held (record { nulls = nulls; trace = None; lines = false; source = None })) (R.remaining reader.old) (R.remaining reader.new)
         (W.contents writer.old) (W.contents writer.new) writer.old writer.new result }
 {
     let ask = Ask {
@@ -43,7 +43,7 @@ pub fn one<R: Read, W: Write>(
         context,
         held,
     };
-    run_program(alloc, reader, writer, &ask, How::new(nulls, false, false))
+    run_program(alloc, reader, writer, &ask, How::new(nulls, None, false))
 }
 
 /// Reads a program as hex and writes its instructions, or why its bytes are no program. Its flow is not checked, nor what its

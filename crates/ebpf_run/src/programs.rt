@@ -27,7 +27,7 @@ pub fn perform_one<R: Read, W: Write>(
         return one_unrolled(alloc, reader, writer, &ask, how);
     }
     match (ask.input, ask.format, how.trace) {
-        (Input::Program(Form::Hex), Format::Text, false) => {
+        (Input::Program(Form::Hex), Format::Text, None) => {
             one(alloc, reader, writer, ask.context, ask.held, how.nulls)
         }
         _ => run_program(alloc, reader, writer, &ask, how),

@@ -8,9 +8,11 @@ ghost use Rattle.ebpf_machine.specs.Step.{GivesBackNext, seen_in};
 ghost use Rattle.ebpf_machine.specs.Store.{AreOut};
 ghost use Rattle.ebpf_machine.specs.Turns.{IsTurn};
 ghost use Rattle.ebpf_steps.specs.Changes.{frame_of};
+ghost use Rattle.ebpf_steps.specs.Chosen.{chosen_at};
 ghost use Rattle.ebpf_steps.specs.StepText.{head_in, line_at, step_in, tail_in};
 
 use crate::change::changed;
+use crate::choice::Choice;
 use crate::words::write_change;
 use ebpf_command::format::Format;
 use ebpf_insn::insn::Insn;
@@ -20,19 +22,15 @@ use ebpf_text::line::write_insn;
 use ebpf_verify::verified::Verified;
 use std::alloc::AllocError;
 
-/// Does one instruction of a run that goes on, and writes its line after a text: the instruction, and what it changed.
+/// Does one instruction of a run that goes on, and says whether this step is chosen.
 ///
 /// Of the run and of the store it asks what [`Run::step`] does.
-///
-/// # Errors
-/// It fails only where an allocation fails: the instruction is done then, and some of its line may be written.
-pub fn trace_step<O: Objects>(
-    text: &mut String,
-    format: Format,
+pub fn step_chosen<O: Objects>(
+    choice: Choice,
     verified: &Verified,
     run: &mut Run<'_, O::Held>,
     objects: &mut O,
-) -> Result<(), AllocError>
+) -> bool
     requires kinds { O.store.kinds ≡ kinds_of run.old.subject.rows }
     requires room { GivesBackNext (seen_in O.store objects.old run.old) → O.store.can_give objects.old }
     requires out { AreOut O.store objects.old run.old.held }
@@ -41,10 +39,29 @@ pub fn trace_step<O: Objects>(
     requires program { run.old.subject ≡ verified.now }
     ensures turn { IsTurn O.store run.old run.new objects.old objects.new }
     ensures bounded { run.new.executed ≤ length (instructions verified.now.program) }
-    ensures line { OnOk result (string_bytes text.new ≡ string_bytes text.old ++ line_at format run.old.pc (insn_at verified.now.program run.old.pc) (frame_of run.new)) }
+    ensures chosen { result ≡ chosen_at choice run.old.executed run.old.pc (insn_at verified.now.program run.old.pc) (frame_of run.new) }
 {
-    let slot = run.pc();
+    let (before, slot) = (run.executed(), run.pc());
     run.step(objects);
+    match verified.program().at(slot) {
+        Some(insn) => choice.chooses(before, slot, changed(insn, run)),
+        None => false,
+    }
+}
+
+/// Writes the line of a step after a text: the instruction at the slot where the run was, and what it changed, by the run after it.
+///
+/// # Errors
+/// It fails only where an allocation fails: some of the line may be written then.
+pub fn write_step_at<H>(
+    text: &mut String,
+    format: Format,
+    verified: &Verified,
+    slot: usize,
+    run: &Run<'_, H>,
+) -> Result<(), AllocError>
+    ensures { OnOk result (string_bytes text.new ≡ string_bytes text.old ++ line_at format slot (insn_at verified.now.program slot) (frame_of run.now)) }
+{
     match verified.program().at(slot) {
         Some(insn) => write_step(text, format, slot, insn, run),
         None => Ok(()),

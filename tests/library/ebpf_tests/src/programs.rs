@@ -49,5 +49,5 @@ pub(crate) fn asked(form: Form, context: &str, held: u8) -> Ask<'_> {
 
 // How a program is run that isn't traced.
 pub(crate) fn how(nulls: bool) -> How<'static> {
-    How::new(nulls, false, false)
+    How::new(nulls, None, false)
 }
