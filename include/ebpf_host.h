@@ -32,7 +32,9 @@
 #include <stddef.h>
 #include <stdint.h>
 
-/* The version of this header, and of the library that it is for. */
+/* The version of this header, and of the library that it is for. A newer library serves a host that was compiled with this header if its version
+ * has the same first number, which is also that of its soname: it has all that is declared here, with the same parameters, numbers and structs,
+ * and its functions return no other statuses. What a later version adds are functions, constants and structs with names of their own. */
 #define EBPF_HOST_VERSION "0.1.0"
 #define EBPF_HOST_VERSION_MAJOR 0
 #define EBPF_HOST_VERSION_MINOR 1
@@ -44,6 +46,17 @@ extern "C" {
 
 /* The version of the library that is linked, as EBPF_HOST_VERSION is that of this header: a text such as "0.1.0", which nobody frees. */
 const char *ebpf_host_version(void);
+
+/* Whether the library that is linked or loaded serves this header: its version has the same first number, and no smaller second one. A host that
+ * is linked with the shared library may run over another one than it was linked with: an older one lacks what was added since. */
+static inline bool ebpf_host_serves(void) {
+    int numbers[3] = {0, 0, 0}, at = 0;
+    for (const char *text = ebpf_host_version(); *text && at < 3; text++) {
+        if (*text == '.') at++;
+        else numbers[at] = 10 * numbers[at] + (*text - '0');
+    }
+    return numbers[0] == EBPF_HOST_VERSION_MAJOR && numbers[1] >= EBPF_HOST_VERSION_MINOR;
+}
 
 /* How a call ended. */
 typedef uint32_t ebpf_status;
@@ -107,6 +120,13 @@ typedef struct ebpf_refusal {
     uint64_t length; /* how many bytes the text has, without the zero that ends it */
 } ebpf_refusal;
 
+/* A function of an object file. */
+typedef struct ebpf_function {
+    char name[256];    /* its name, at most 255 bytes of it, and zeros after it */
+    char section[256]; /* the name of its section, likewise */
+    uint64_t slots;    /* how many slots of eight bytes it has */
+} ebpf_function;
+
 /* What a run did. */
 typedef struct ebpf_report {
     uint64_t exit;     /* the number that it returned; 0 where it did not exit */
@@ -139,6 +159,25 @@ typedef struct ebpf_totals {
     uint64_t clashes;          /* how many objects went back since another run owned them */
     uint64_t strays;           /* how many objects off a shelf went back since another run owned them */
 } ebpf_totals;
+
+/* In each version with the same first number a handle has 8 bytes, a refusal 16, a function 520, a report 72, and totals have 232. */
+
+#if defined(__cplusplus)
+#define EBPF_HOST_SIZE(type, size) static_assert(sizeof(type) == (size), "another layout of " #type)
+#elif defined(__STDC_VERSION__) && __STDC_VERSION__ >= 201112L
+#define EBPF_HOST_SIZE(type, size) _Static_assert(sizeof(type) == (size), "another layout of " #type)
+#endif
+#ifdef EBPF_HOST_SIZE
+EBPF_HOST_SIZE(ebpf_program, 8);
+EBPF_HOST_SIZE(ebpf_machine, 8);
+EBPF_HOST_SIZE(ebpf_shared, 8);
+EBPF_HOST_SIZE(ebpf_worker, 8);
+EBPF_HOST_SIZE(ebpf_refusal, 16);
+EBPF_HOST_SIZE(ebpf_function, 520);
+EBPF_HOST_SIZE(ebpf_report, 72);
+EBPF_HOST_SIZE(ebpf_totals, 232);
+#undef EBPF_HOST_SIZE
+#endif
 
 /* Loads a program: its raw instruction slots, eight bytes each, as its text section has them. It is to be run on contexts of `context`
  * bytes, 0 to 4096, and may hold at most `held` objects at one time, 0 to 64. What the handle held before is freed.
@@ -181,6 +220,15 @@ ebpf_status ebpf_program_load_unrolled(ebpf_program *program, const uint8_t *byt
 ebpf_status ebpf_program_load_elf_unrolled(ebpf_program *program, const uint8_t *bytes, size_t length, const char *name,
                                            size_t name_length, uint32_t context, uint32_t held, char *text, size_t text_length,
                                            ebpf_refusal *refusal);
+
+/* Lists the functions of an object file, whose bytes are given, in the order of its symbol table: writes each to `functions`, as far as there is
+ * room for functions_length of them, and how many the file has to *count. With functions_length 0 it only counts them. The loads take a function
+ * by the name that is listed, of several with one name the first, and say whether it can be loaded.
+ *
+ * EBPF_REFUSED: the file can't be read: the code is O1, the slot 0, and text is as for ebpf_program_load. EBPF_NO_MEMORY: only if the file
+ * can't be read. Both leave functions and *count as they were. */
+ebpf_status ebpf_elf_functions(const uint8_t *bytes, size_t length, ebpf_function *functions, size_t functions_length, size_t *count, char *text,
+                               size_t text_length, ebpf_refusal *refusal);
 
 /* Makes `other` a second handle of the same program, which is not verified again. What it held before is freed. The two handles must
  * differ. EBPF_EMPTY: `program` holds nothing. EBPF_NO_MEMORY. */
@@ -333,6 +381,16 @@ static inline ebpf_status ebpf_program_load_elf_unrolled_or_null(ebpf_program *p
                                           context, held, text || text_length ? text : &no_text, text_length, refusal);
 }
 #define ebpf_program_load_elf_unrolled ebpf_program_load_elf_unrolled_or_null
+
+static inline ebpf_status ebpf_elf_functions_or_null(const uint8_t *bytes, size_t length, ebpf_function *functions, size_t functions_length,
+                                                     size_t *count, char *text, size_t text_length, ebpf_refusal *refusal) {
+    uint8_t no_bytes = 0;
+    ebpf_function no_function;
+    char no_text = 0;
+    return ebpf_elf_functions(bytes || length ? bytes : &no_bytes, length, functions || functions_length ? functions : &no_function,
+                              functions_length, count, text || text_length ? text : &no_text, text_length, refusal);
+}
+#define ebpf_elf_functions ebpf_elf_functions_or_null
 
 static inline ebpf_status ebpf_machine_run_or_null(ebpf_machine *machine, const ebpf_program *program, const uint8_t *context,
                                                    size_t context_length, uint64_t limit, uint64_t *output, size_t output_length,

@@ -7,7 +7,7 @@
 
 #include "ebpf_host.h"
 
-enum { LONGEST = 2000, CONTEXT = 16, MOST = 11, NUMBERS = 64 };
+enum { LONGEST = 3000, CONTEXT = 16, MOST = 11, NUMBERS = 64 };
 
 static uint8_t bytes[8 * LONGEST];
 static size_t slots;
@@ -101,7 +101,7 @@ static void compare(size_t count, int differs) {
 }
 
 int main(void) {
-    static const size_t lengths[] = {60, 200, 1023, 1100, LONGEST};
+    static const size_t lengths[] = {60, 200, 2047, 2148, LONGEST};
     size_t programs = 0;
     assert(ebpf_machine_new(&machine, 1) == EBPF_DONE && ebpf_shared_new(&shared, 1, 1) == EBPF_DONE);
     assert(ebpf_worker_open(&worker, &shared) == EBPF_DONE);

@@ -4,7 +4,7 @@
 //     ebpf::Machine machine = ebpf::Machine::create(16);
 //     ebpf::Report report = machine.run(program, packet);
 //
-// Numbers and structs are those of ebpf_host.h: kinds as EBPF_RECORD, statuses as EBPF_BUSY, reports and totals. What a function does is
+// Numbers and structs are those of ebpf_host.h: kinds as EBPF_RECORD, statuses as EBPF_BUSY, functions, reports and totals. What a function does is
 // said there too, at the C function of its name; the comments here say what differs. Everything is inline, so there is nothing to link but
 // the C library.
 //
@@ -35,6 +35,7 @@
 #include <type_traits>
 #include <utility>
 #include <variant>
+#include <vector>
 
 #include <ebpf_host.h>
 
@@ -46,6 +47,8 @@ namespace ebpf {
 
 // What a run did.
 using Report = ebpf_report;
+// A function of an object file, as a list has it.
+using Function = ebpf_function;
 // What all workers did, by the numbers of the kinds.
 using Totals = ebpf_totals;
 // Bytes that are only read: slots, an object file, contexts, the bytes of an object. Empty ones may have a null pointer.
@@ -259,6 +262,24 @@ public:
 };
 
 } // namespace detail
+
+// The functions of an object file, in the order of its symbol table: Program::load_elf takes their names. It fails with a Refused if the file can't
+// be read, or with an Error of EBPF_NO_MEMORY.
+[[nodiscard]] inline Result<std::vector<Function>> elf_functions(Bytes file) {
+    std::vector<Function> functions;
+    std::size_t count = 0;
+    ebpf_refusal refusal = {};
+    std::string text(1024, '\0');
+    ebpf_status status = EBPF_DONE;
+    const auto list = [&] {
+        status = ebpf_elf_functions(file.data(), file.size(), functions.data(), functions.size(), &count, text.data(), text.size(), &refusal);
+    };
+    list(); // which counts them
+    if (status == EBPF_DONE) functions.resize(count), list();
+    if (status == EBPF_REFUSED) EBPF_HOST_FAIL Refused(refusal, std::string_view(text).substr(0, refusal.length));
+    if (status != EBPF_DONE) EBPF_HOST_FAIL Error(status);
+    return functions;
+}
 
 // What a program is loaded for.
 struct Declaration {

@@ -51,6 +51,11 @@ ebpf_status ebpfhost_load(ebpfhost_program **made, const uint8_t *bytes, size_t 
     return status;
 }
 
+ebpf_status ebpfhost_functions(const uint8_t *bytes, size_t length, ebpf_function *functions, size_t functions_length, size_t *count, char *text,
+                               size_t text_length, ebpf_refusal *refusal) {
+    return ebpf_elf_functions(bytes, length, functions, functions_length, count, text, text_length, refusal);
+}
+
 ebpf_status ebpfhost_share(ebpfhost_program **made, const ebpfhost_program *program) {
     ebpfhost_program *other = new_line();
     ebpf_status status = other ? ebpf_program_share(program_of(other), program_of(program)) : EBPF_NO_MEMORY;

@@ -17,6 +17,10 @@ ebpf_status ebpfhost_new_machine(ebpfhost_runner **made, uint32_t pages);
 ebpf_status ebpfhost_new_shared(ebpfhost_shared **made, uint32_t pages, uint32_t workers);
 ebpf_status ebpfhost_open(ebpfhost_runner **made, ebpfhost_shared *shared);
 
+/* The functions of an object file, as far as there is room. */
+ebpf_status ebpfhost_functions(const uint8_t *bytes, size_t length, ebpf_function *functions, size_t functions_length, size_t *count, char *text,
+                               size_t text_length, ebpf_refusal *refusal);
+
 /* Each of these frees what a handle holds, and the handle. */
 void ebpfhost_free_program(ebpfhost_program *program);
 void ebpfhost_free_runner(ebpfhost_runner *runner);

@@ -40,6 +40,7 @@ func callsServed(t *testing.T, allocations int, slots []byte) bool {
 	var shared *Shared
 	var worker *Worker
 	for _, call := range []func() error{
+		listedNone,
 		func() (err error) { _, err = Load(slots, Declaration{Held: 1}); return },
 		func() (err error) { _, err = program.Share(); return },
 		func() (err error) { machine, err = NewMachine(1); return },
@@ -55,6 +56,15 @@ func callsServed(t *testing.T, allocations int, slots []byte) bool {
 		is(t, machine.Close() == nil && (worker == nil || worker.Close() == nil), true)
 	}
 	return all
+}
+
+// listedNone lists the functions of no file, which is refused if there is memory for that.
+func listedNone() error {
+	_, err := ELFFunctions(nil)
+	if why := (*Refused)(nil); errors.As(err, &why) {
+		return nil
+	}
+	return err
 }
 
 func ran(machine *Machine, program *Program) error {

@@ -46,6 +46,24 @@ func TestRefusals(t *testing.T) {
 	}
 }
 
+// The functions of a file, each with a name by which it is loaded, and of none.
+func TestFunctions(t *testing.T) {
+	two := readFile(t, twoObject)
+	functions := must(ELFFunctions(two))(t)
+	is(t, len(functions), 2)
+	is(t, functions[0], Function{"checksum", ".text", 8})
+	is(t, functions[1], Function{"largest", ".text", 11})
+	for _, it := range functions {
+		is(t, must(LoadELF(two, it.Name, Declaration{Context: 16}))(t).Slots(), int(it.Slots))
+	}
+	two[980], two[1004] = 0x10, 0x10 // neither is a function any more
+	is(t, len(must(ELFFunctions(two))(t)), 0)
+	for _, none := range [][]byte{nil, {}, two[:63]} {
+		_, err := ELFFunctions(none)
+		is(t, *refusalOf(t, nil, err), Refused{Code: "O1", Sentence: "the file has fewer than the 64 bytes of an ELF header"})
+	}
+}
+
 // What a program is, as it was declared and as it is run, also of one that is closed.
 func TestAbout(t *testing.T) {
 	program, err := Load(slotsOf(t, read), Declaration{Context: 4, Held: 3})

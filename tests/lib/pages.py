@@ -33,9 +33,10 @@ def pieces_of(markdown):
 
 
 def lines_of(header):
-    """What the page of the library has to have: each line of the header, but those for the preprocessor and for C++, and inline code."""
+    """What the page of the library has to have: each line of the header, but those for the preprocessor and for C++, those that check sizes, and
+    inline code."""
     for line in re.sub(r'^static inline .*?^\}$', '', header, flags=re.M | re.S).replace('`', '').splitlines():
-        if re.match('#(?!define EBPF_HOST_VERSION)|extern "C"|}$', line):
+        if re.match(r'#(?!define EBPF_HOST_VERSION)|extern "C"|EBPF_HOST_SIZE\(|}$', line):
             continue
         yield one_line(re.sub(r'^(?:/\*| \*) ?|(?<!;) ?\*/$', '', line) if re.match(r'/\*| \*', line) else line)
 

@@ -46,6 +46,7 @@ void refusals() {
     ebpf::Error why = program.error();
     assert(std::string(why.what()) == "V8 at slot 0: " + std::string(why.sentence()));
     assert(load(READ, 4097).error().status() == EBPF_DECLARATION && Machine::create(0).error().status() == EBPF_PAGES);
+    assert(ebpf::elf_functions({}).error().code() == "O1");
     assert(!Program::load_elf({}, "name", {}) && !Program::load_unrolled({}, {}) && !Program::load_elf_unrolled({}, {}, {}));
 }
 

@@ -106,6 +106,19 @@ void refusals(const char *path) {
     assert(why.code() == "O2" && why.sentence() == "the file has no function of that name; it has checksum, largest");
 }
 
+// The functions of a file, each with a name by which it is loaded, and of none.
+void lists(const char *path) {
+    std::vector<std::uint8_t> file = read_file(path);
+    std::vector<ebpf::Function> functions = ebpf::elf_functions(file);
+    assert(functions.size() == 2 && functions[0].name == std::string_view("checksum") && functions[1].name == std::string_view("largest"));
+    assert(functions[0].section == std::string_view(".text") && functions[0].slots == 8 && functions[1].slots == 11);
+    for (const ebpf::Function &it : functions) assert(Program::load_elf(file, it.name, {.context = 16}).slots() == it.slots);
+    file[980] = file[1004] = 0x10; // neither is a function any more
+    assert(ebpf::elf_functions(file).empty());
+    ebpf::Refused why = refusal_of([] { return (void)ebpf::elf_functions({}), Program(); });
+    assert(why.code() == "O1" && why.sentence() == "the file has fewer than the 64 bytes of an ELF header");
+}
+
 // What a program is, as it was declared and as it is run.
 void is_about() {
     const Program program = load(READ, 4, 3);
@@ -402,6 +415,7 @@ bool served(long allocations, const std::vector<std::uint8_t> &slots) {
     Worker worker;
     Report reports[2];
     refused = false;
+    does(allocations, [] { assert(status_of([] { (void)ebpf::elf_functions({}); }) == (refused ? EBPF_NO_MEMORY : EBPF_REFUSED)); });
     assert(does(allocations, [&] { program = Program::load(slots, {.held = 1}); }) == !!program);
     if (!program) program = Program::load(slots, {.held = 1});
     assert(does(allocations, [&] { second = program.share(); }) == !!second);
@@ -455,6 +469,7 @@ void batches_without_memory() {
 int main(int count, char **words) {
     assert(count == 4);
     refusals(words[1]);
+    lists(words[1]);
     is_about();
     is_padded();
     a_long_text();

@@ -22,7 +22,7 @@ from ebpf_host.errors import (
     WrongLength,
 )
 from ebpf_host.machine import Machine
-from ebpf_host.program import Program
+from ebpf_host.program import Function, Program, elf_functions
 from ebpf_host.reports import Kind, KindTotals, Report, Reports, Totals
 from ebpf_host.shared import Shared, Worker
 
@@ -35,6 +35,6 @@ def library_version() -> str:
 
 
 __all__ = [
-    "Busy", "Closed", "EbpfError", "Kind", "KindTotals", "Machine", "NoMemory", "NoObject", "OutOfRange", "Program", "Refused", "Report",
-    "Reports", "Shared", "Status", "TooLong", "Totals", "UnknownKind", "Worker", "WrongLength", "library_version",
+    "Busy", "Closed", "EbpfError", "Function", "Kind", "KindTotals", "Machine", "NoMemory", "NoObject", "OutOfRange", "Program", "Refused", "Report",
+    "Reports", "Shared", "Status", "TooLong", "Totals", "UnknownKind", "Worker", "WrongLength", "elf_functions", "library_version",
 ]

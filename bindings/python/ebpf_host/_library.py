@@ -89,6 +89,12 @@ class Refusal(ctypes.Structure):
     _fields_ = [("code", c_char * 4), ("slot", c_uint32), ("length", c_uint64)]
 
 
+class Function(ctypes.Structure):
+    """A function of an object file."""
+
+    _fields_ = [("name", c_char * 256), ("section", c_char * 256), ("slots", c_uint64)]
+
+
 _PROGRAM, _MACHINE, _SHARED, _WORKER = POINTER(ProgramHandle), POINTER(MachineHandle), POINTER(SharedHandle), POINTER(WorkerHandle)
 _BYTES = c_void_p, c_size_t
 _SAYING = c_uint32, c_uint32, *_BYTES, POINTER(Refusal)
@@ -99,6 +105,7 @@ program_load = _function("ebpf_program_load", _PROGRAM, *_BYTES, *_SAYING)
 program_load_unrolled = _function("ebpf_program_load_unrolled", _PROGRAM, *_BYTES, *_SAYING)
 program_load_elf = _function("ebpf_program_load_elf", _PROGRAM, *_BYTES, *_BYTES, *_SAYING)
 program_load_elf_unrolled = _function("ebpf_program_load_elf_unrolled", _PROGRAM, *_BYTES, *_BYTES, *_SAYING)
+elf_functions = _function("ebpf_elf_functions", *_BYTES, *_BYTES, POINTER(c_size_t), *_BYTES, POINTER(Refusal))
 program_context = _function("ebpf_program_context", _PROGRAM)
 program_held = _function("ebpf_program_held", _PROGRAM)
 program_slots = _function("ebpf_program_slots", _PROGRAM)

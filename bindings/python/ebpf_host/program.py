@@ -6,7 +6,7 @@ import ctypes
 import os
 import re
 from pathlib import Path
-from typing import Any, Union
+from typing import Any, NamedTuple, Union
 
 from ebpf_host import _library
 from ebpf_host._library import Buffer, borrowed, number, passed
@@ -39,6 +39,43 @@ def _load(function: Any, *words: Any) -> Any:
         size = refusal.length + 1
 
 
+def _bytes_of(source: Source) -> Buffer:
+    """The bytes of the file at a path, or these."""
+    return Path(source).read_bytes() if isinstance(source, (str, os.PathLike)) else source
+
+
+class Function(NamedTuple):
+    """A function of an object file."""
+
+    name: str
+    """Its name, by which `Program.from_elf` takes it; at most 255 bytes of it."""
+    section: str
+    """The name of its section, likewise."""
+    slots: int
+    """How many slots of eight bytes it has."""
+
+
+def elf_functions(source: Source) -> list[Function]:
+    """The functions of the object file at a path, or with these bytes, in the order of its symbol table. Whether one can be loaded, its load says.
+
+    `Refused` says why the file can't be read.
+    """
+    file = borrowed(_bytes_of(source))
+    rows = (_library.Function * _listed(file, (_library.Function * 0)()))()
+    _listed(file, rows)
+    return [Function(it.name.decode(errors="replace"), it.section.decode(errors="replace"), it.slots) for it in rows]
+
+
+def _listed(file: tuple[Any, int], rows: ctypes.Array[_library.Function]) -> int:
+    """Writes the functions of a file, as far as there is room. How many there are."""
+    count, refusal, text = ctypes.c_size_t(), _library.Refusal(), ctypes.create_string_buffer(_TEXT)
+    status = _library.elf_functions(*file, rows, len(rows), count, text, _TEXT, refusal)
+    if status == Status.REFUSED:
+        raise _refused(text.value.decode(errors="replace"), refusal)
+    check(status)
+    return count.value
+
+
 class Program:
     """A program that was accepted. Any number of threads may use it at once.
 
@@ -58,11 +95,10 @@ class Program:
     def from_elf(cls, source: Source, function: str | None = None, context: int = 0, held: int = 0, *, unroll: bool = False) -> Program:
         """A function of an object file that a compiler made (clang -target bpfel -c): of the file at a path, or with these bytes. Without a
         name it is the file's only function."""
-        file = Path(source).read_bytes() if isinstance(source, (str, os.PathLike)) else source
         name = (function or "").encode()
         load = _library.program_load_elf_unrolled if unroll else _library.program_load_elf
         made = cls.__new__(cls)
-        made._hold(load, *borrowed(file), name, len(name), context=context, held=held)
+        made._hold(load, *borrowed(_bytes_of(source)), name, len(name), context=context, held=held)
         return made
 
     def _hold(self, function: Any, *source: Any, context: int, held: int) -> None:

@@ -34,10 +34,12 @@ class Header(unittest.TestCase):
             return re.findall(r"^    \w+ (\w+)(?:\[\d+\])?;", re.search(rf"typedef struct ebpf_{name} \{{(.*?)\n\}}", HEADER, re.S)[1], re.M)
 
         self.assertEqual(members("refusal"), [name for name, _ in _library.Refusal._fields_])
+        self.assertEqual(members("function"), [name for name, _ in _library.Function._fields_])
         self.assertEqual(members("report"), [{"emitted": "outputs"}.get(it, it) for it in ebpf_host.Report._fields[:-1]])
         self.assertEqual(members("kind_totals"), list(ebpf_host.KindTotals._fields))
         self.assertEqual(members("totals"), list(ebpf_host.Totals._fields))
-        self.assertEqual((ctypes.sizeof(_library.Refusal), reports.REPORT.size, reports.TOTALS_SIZE), (16, 72, 232))
+        sizes = ctypes.sizeof(_library.Refusal), ctypes.sizeof(_library.Function), reports.REPORT.size, reports.TOTALS_SIZE
+        self.assertEqual(sizes, (16, 520, 72, 232))
 
     def test_functions(self):
         declared = set(re.findall(r"^(?!static)[a-z].*[ *](ebpf_\w+)\(", HEADER, re.M))

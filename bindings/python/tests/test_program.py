@@ -6,7 +6,7 @@ from unittest import mock
 
 from samples import COUNT, EMIT, ENDLESS, OBJECTS, READ, SEVEN, TOP
 
-from ebpf_host import Closed, EbpfError, Machine, OutOfRange, Program, Refused, Status, WrongLength, program
+from ebpf_host import Closed, EbpfError, Function, Machine, OutOfRange, Program, Refused, Status, WrongLength, elf_functions, program
 
 NUMBERS = bytes.fromhex("01000000050000000300000004000000")
 
@@ -38,6 +38,21 @@ class Loads(unittest.TestCase):
         self.assertEqual(self.exit_of(Program.from_elf(path, "largest", 16, 64), NUMBERS), 5)
         self.assertEqual(self.exit_of(Program.from_elf(OBJECTS / "table.o", context=1), b"\5"), 9)  # which reads a table
         self.assertRaises(FileNotFoundError, Program.from_elf, "none.o")
+
+    def test_lists(self):
+        path = OBJECTS / "two.o"
+        for source in (path, str(path), path.read_bytes(), bytearray(path.read_bytes())):
+            self.assertEqual(elf_functions(source), [Function("checksum", ".text", 8), Function("largest", ".text", 11)])
+        for it in elf_functions(path):
+            self.assertEqual(Program.from_elf(path, it.name, 16).slots, it.slots)
+        self.assertEqual([it.section for it in elf_functions(OBJECTS / "section.o")], ["prog/a", "prog/a", "prog/b"])
+        none = bytearray(path.read_bytes())
+        none[980] = none[1004] = 0x10  # neither is a function any more
+        self.assertEqual(elf_functions(none), [])
+        for damaged in (b"", none[:63]):
+            with self.assertRaises(Refused) as caught:
+                elf_functions(damaged)
+            self.assertEqual(caught.exception.args, ("O1", 0, "the file has fewer than the 64 bytes of an ELF header", None))
 
     def test_loops(self):
         self.assertEqual(self.machine.run(Program(COUNT, unroll=True)).executed, 8)

@@ -10,12 +10,25 @@ use std::mem::MaybeUninit;
 use std::ptr::null_mut;
 
 use crate::report::{Report, Totals};
-use crate::sys::{self, ebpf_machine, ebpf_program, ebpf_refusal, ebpf_shared, ebpf_status, ebpf_worker, EBPF_DONE};
+use crate::sys::{self, ebpf_function, ebpf_machine, ebpf_program, ebpf_refusal, ebpf_shared, ebpf_status, ebpf_worker, EBPF_DONE};
 
 /// The text of the library's version.
 pub(crate) fn version() -> &'static str {
     // SAFETY: the library keeps the text as long as it is loaded, which is until the end of this process, and a zero ends it.
     unsafe { CStr::from_ptr(sys::ebpf_host_version()) }.to_str().unwrap_or_default()
+}
+
+/// Writes the functions of an object file, as far as there is room, and how many there are.
+pub(crate) fn elf_functions(
+    file: &[u8],
+    functions: &mut [ebpf_function],
+    count: &mut usize,
+    text: &mut [u8],
+    refusal: &mut ebpf_refusal,
+) -> ebpf_status {
+    let (first, room) = (functions.as_mut_ptr(), functions.len());
+    // SAFETY: each pointer is of a reference, or of a slice with its length.
+    unsafe { sys::ebpf_elf_functions(file.as_ptr(), file.len(), first, room, count, text.as_mut_ptr().cast(), text.len(), refusal) }
 }
 
 /// A handle of C.

@@ -37,6 +37,7 @@
 #![warn(rust_2018_idioms, missing_debug_implementations, unreachable_pub)]
 
 mod error;
+mod function;
 mod handle;
 mod kind;
 mod machine;
@@ -52,6 +53,7 @@ pub fn version() -> &'static str {
 }
 
 pub use error::{BatchError, CloseError, Error, Refused};
+pub use function::{elf_functions, Function};
 pub use kind::Kind;
 pub use machine::{Machine, Worker, NO_LIMIT};
 pub use program::{Declaration, Program};

@@ -3,6 +3,7 @@
 #![allow(non_camel_case_types)]
 
 use std::ffi::c_void;
+use std::mem::size_of;
 use std::os::raw::c_char;
 
 use crate::report::{Report, Totals};
@@ -42,6 +43,18 @@ pub(crate) struct ebpf_refusal {
     pub(crate) length: u64,
 }
 
+/// The structs have the sizes of C, which are the same in each version of the library with the same first number.
+const _: () = assert!(size_of::<ebpf_program>() == 8 && size_of::<ebpf_refusal>() == 16 && size_of::<ebpf_function>() == 520);
+const _: () = assert!(size_of::<Report>() == 72 && size_of::<Totals>() == 232);
+
+#[repr(C)]
+#[derive(Clone, Copy)]
+pub(crate) struct ebpf_function {
+    pub(crate) name: [u8; 256],
+    pub(crate) section: [u8; 256],
+    pub(crate) slots: u64,
+}
+
 /// The loads, some of which take more after the bytes.
 macro_rules! loads {
     ($($load:ident($($name:ident: $type:ty),*);)*) => {
@@ -69,6 +82,16 @@ loads! {
 
 extern "C" {
     pub(crate) fn ebpf_host_version() -> *const c_char;
+    pub(crate) fn ebpf_elf_functions(
+        bytes: *const u8,
+        length: usize,
+        functions: *mut ebpf_function,
+        functions_length: usize,
+        count: *mut usize,
+        text: *mut c_char,
+        text_length: usize,
+        refusal: *mut ebpf_refusal,
+    ) -> ebpf_status;
     pub(crate) fn ebpf_program_context(program: *const ebpf_program) -> u32;
     pub(crate) fn ebpf_program_held(program: *const ebpf_program) -> u32;
     pub(crate) fn ebpf_program_slots(program: *const ebpf_program) -> u32;

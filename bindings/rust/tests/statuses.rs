@@ -35,6 +35,28 @@ fn refusals() {
     assert_eq!((why.code(), why.sentence()), ("O2", "the file has no function of that name; it has checksum, largest"));
 }
 
+/// The functions of a file, each with a name by which it is loaded, and of none.
+#[test]
+fn lists() {
+    let functions = ebpf_host::elf_functions(TWO).expect("it can be read");
+    let rows: Vec<_> = functions.iter().map(|it| (it.name.as_str(), it.section.as_str(), it.slots)).collect();
+    assert_eq!(rows, [("checksum", ".text", 8), ("largest", ".text", 11)]);
+    for it in &functions {
+        let program = Program::load_elf(TWO, Some(&it.name), declared(16, 0)).expect("it is accepted");
+        assert_eq!(u64::from(program.slots()), it.slots);
+    }
+    let mut none = TWO.to_vec();
+    none[980] = 0x10; // neither is a function any more
+    none[1004] = 0x10;
+    assert_eq!(ebpf_host::elf_functions(&none), Ok(vec![]));
+    match ebpf_host::elf_functions(&[]) {
+        Err(Error::Refused(why)) => {
+            assert_eq!((why.code(), why.sentence()), ("O1", "the file has fewer than the 64 bytes of an ELF header"));
+        }
+        other => panic!("{other:?}"),
+    }
+}
+
 /// What a program is, as it was declared and as it is run.
 #[test]
 fn about() {

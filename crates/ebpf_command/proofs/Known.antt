@@ -5,7 +5,6 @@ use Rattle.std.specs.Io.KnownBytes.{Consumes, Appends, IsAtEnd}
 use Rattle.std.proofs.Math.Seq.{take-append_seam, take-add}
 use Rattle.std.proofs.lemmas.List.{take-append-le}
 use Rattle.std.proofs.lemmas.Grind.{common_steps}
-use Rattle.ebpf_command.specs.Input.{read_of}
 
 -- some bytes were consumed, and then some more
 pub Consumes-more : (a b c : Option (List ℕ)) (xs ys : List ℕ) → Consumes a b xs → Consumes b c ys → Consumes a c (xs ++ ys)
@@ -22,23 +21,23 @@ Appends-more (Some old) (Some mid) None xs ys h k = absurd k
 Appends-more (Some old) (Some mid) (Some new) xs ys h k = k ∙ (ap (λ (zs : List ℕ). zs ++ ys) h ∙ append_assoc old xs ys)
 
 -- what was consumed is the front of a long input
-pub read_front : (a b : Option (List ℕ)) (xs : List ℕ) → Consumes a b xs → length xs ≡ 1048577 → IfSome a (λ input. xs ≡ read_of input)
-read_front None b xs h full = tt
-read_front (Some old) None xs h full = absurd h
-read_front (Some old) (Some new) xs h full =
-    sym (ap (λ (zs : List ℕ). take 1048577 zs) h ∙ (ap (λ (n : ℕ). take n (xs ++ new)) (sym full) ∙ take-append_seam xs new))
+pub read_front : (most : ℕ) (a b : Option (List ℕ)) (xs : List ℕ) → Consumes a b xs → length xs ≡ most → IfSome a (λ input. xs ≡ take most input)
+read_front most None b xs h full = tt
+read_front most (Some old) None xs h full = absurd h
+read_front most (Some old) (Some new) xs h full =
+    sym (ap (λ (zs : List ℕ). take most zs) h ∙ (ap (λ (n : ℕ). take n (xs ++ new)) (sym full) ∙ take-append_seam xs new))
 
 -- a list that is no longer than a number is its own front
 pub front_of_short : (n : ℕ) (xs : List ℕ) → length xs ≤ n → take n xs ≡ xs
 front_of_short n xs few = grind (arith, common_steps)
 
 -- what was consumed is all of a short input
-pub read_all : (a b : Option (List ℕ)) (xs : List ℕ) → Consumes a b xs → IsAtEnd b → length xs ≤ 1048577 → IfSome a (λ input. xs ≡ read_of input)
-read_all None b xs h end few = tt
-read_all (Some old) None xs h end few = absurd h
-read_all (Some old) (Some new) xs h end few =
+pub read_all : (most : ℕ) (a b : Option (List ℕ)) (xs : List ℕ) → Consumes a b xs → IsAtEnd b → length xs ≤ most → IfSome a (λ input. xs ≡ take most input)
+read_all most None b xs h end few = tt
+read_all most (Some old) None xs h end few = absurd h
+read_all most (Some old) (Some new) xs h end few =
     let same : old ≡ xs = h ∙ rw end (grind (arith, common_steps)) in
-    sym (ap (λ (zs : List ℕ). take 1048577 zs) same ∙ front_of_short 1048577 xs few)
+    sym (ap (λ (zs : List ℕ). take most zs) same ∙ front_of_short most xs few)
 
 -- the front of a text, and what was written of its rest, is a longer front
 take_more : (place n : ℕ) (text : List ℕ) → take (place + n) text ≡ take place text ++ take n (take (length text - place) (drop place text))
@@ -65,8 +64,8 @@ Consumes-chunk a b c xs buf rest new n fits h k e =
     (subst (λ (zs : List ℕ). Consumes a c zs) (sym same) (Consumes-more a b c _ _ h k), rw same (grind (arith, common_steps)))
 
 -- the last read gave nothing: all was read
-pub read_whole : (a b c : Option (List ℕ)) (xs buf : List ℕ) (n : ℕ) → n ≡ 0 → Consumes a b xs → Consumes b c (take n buf)
-    → IsAtEnd c → length xs ≤ 1048577 → IfSome a (λ input. xs ≡ read_of input)
-read_whole a b c xs buf n nothing h k end few =
+pub read_whole : (most : ℕ) (a b c : Option (List ℕ)) (xs buf : List ℕ) (n : ℕ) → n ≡ 0 → Consumes a b xs → Consumes b c (take n buf)
+    → IsAtEnd c → length xs ≤ most → IfSome a (λ input. xs ≡ take most input)
+read_whole most a b c xs buf n nothing h k end few =
     let same : xs ++ take n buf ≡ xs = rw nothing (grind (arith, common_steps)) in
-    read_all a c xs (subst (λ (zs : List ℕ). Consumes a c zs) same (Consumes-more a b c _ _ h k)) end few
+    read_all most a c xs (subst (λ (zs : List ℕ). Consumes a c zs) same (Consumes-more a b c _ _ h k)) end few

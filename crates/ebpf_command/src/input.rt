@@ -1,6 +1,6 @@
 //! Reading the input.
 
-ghost use Rattle.std.specs.Prelude.{◌≡◌, ◌≢◌, ◌≤◌, ◌<◌, ◌+◌, IfOk, IfErr, IfSome, length};
+ghost use Rattle.std.specs.Prelude.{◌≡◌, ◌≢◌, ◌≤◌, ◌<◌, ◌+◌, IfOk, IfErr, IfSome, length, take};
 ghost use Rattle.std.specs.Io.KnownBytes.{Consumes, IsAtEnd};
 ghost use Rattle.ebpf_command.specs.Input.{read_of};
 ghost use Rattle.ebpf_command.specs.declared.input.TheConstants.{MAX_INPUT};
@@ -31,10 +31,27 @@ pub fn read_input<R: Read>(alloc: Global, reader: &mut R) -> Result<Vec<u8>, Eng
     ensures consumed { IfOk result (λ bytes. Consumes (R.remaining reader.old) (R.remaining reader.new) bytes.items) }
     ensures err { IfErr result (λ e. e ≢ Output) }
 {
+    read_at_most(alloc, reader, LIMIT)
+}
+
+/// The whole input, or this many bytes of a longer one, by as many reads at most as [`read_input`] makes.
+///
+/// # Errors
+/// As [`read_input`].
+pub fn read_at_most<R: Read>(
+    alloc: Global,
+    reader: &mut R,
+    most: usize,
+) -> Result<Vec<u8>, EngineFault>
+    ensures read { IfOk result (λ bytes. IfSome (R.remaining reader.old) (λ input. bytes.items ≡ take most input)) }
+    ensures few { IfOk result (λ bytes. length bytes.items ≤ most) }
+    ensures consumed { IfOk result (λ bytes. Consumes (R.remaining reader.old) (R.remaining reader.new) bytes.items) }
+    ensures err { IfErr result (λ e. e ≢ Output) }
+{
     let mut bytes = Vec::new(alloc);
     let mut chunk = [0; CHUNK];
-    'reading: while bytes.len() < LIMIT {
-        let want = CHUNK.min(LIMIT - bytes.len());
+    'reading: while bytes.len() < most {
+        let want = CHUNK.min(most - bytes.len());
         let Ok(n) = reader.read(&mut chunk[..want]) else {
             return Err(EngineFault::Input);
         };

@@ -1,5 +1,5 @@
 -- The context that is made of the bytes that are given, and its text.
-use Rattle.std.specs.Prelude.{ℕ, ◌-◌, ◌+◌, nat_lt, if◌then◌else◌, List, ◌++◌, length, take, replicate, Option, Some, None, option_map}
+use Rattle.std.specs.Prelude.{ℕ, ◌-◌, ◌+◌, nat_lt, if◌then◌else◌, List, ◌++◌, length, take, replicate, Option, Some, None, option_map, unwrap_or}
 use Rattle.hex.specs.Hex.{encode_lower}
 use Rattle.ebpf_command.specs.HexText.{hex_or_dash}
 use Rattle.ebpf_verify.specs.declared.decl.TheConstants.{MAX_CONTEXT}
@@ -24,6 +24,10 @@ text_of_read text declared (Some given) = text_of given (Some declared)
 -- the text that is made of another, which gives the bytes as hex; a text that isn't hex is its own
 abbrev pub text_of_text : List ℕ → ℕ → Option (List ℕ)
 text_of_text text declared = text_of_read text declared (hex_or_dash text)
+
+-- how many bytes of an input are read at most
+abbrev pub most_read : Option ℕ → ℕ
+most_read declared = unwrap_or declared MAX_CONTEXT + 1
 
 -- the text that is made of an input; if no length is declared, one byte more is read of a longer input than a context may have
 abbrev pub text_of_input : List ℕ → Option ℕ → Option (List ℕ)

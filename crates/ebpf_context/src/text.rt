@@ -1,16 +1,16 @@
 //! The text of a context.
 
-ghost use Rattle.std.specs.Prelude.{◌≡◌, ◌≢◌, IfOk, IfErr, IfSome, Some, option_map, string_bytes};
+ghost use Rattle.std.specs.Prelude.{◌≡◌, ◌≢◌, IfOk, IfErr, IfSome, Some, drop, option_map, string_bytes};
 ghost use Rattle.hex.specs.Hex.{encode_lower};
 ghost use Rattle.ebpf_command.specs.HexText.{hex_or_dash};
 ghost use Rattle.ebpf_command.specs.declared.done.EngineFault.TheVariants.{Output};
-ghost use Rattle.ebpf_context.specs.ContextText.{context_of, text_of, text_of_text, text_of_input};
+ghost use Rattle.ebpf_context.specs.ContextText.{context_of, most_read, text_of, text_of_text, text_of_input};
 
 use ebpf_command::done::EngineFault;
 use ebpf_command::hex_text::hex_or_dash;
+use ebpf_command::input::read_at_most;
 use ebpf_verify::decl::MAX_CONTEXT;
 use std::alloc::{AllocError, Global};
-use std::io;
 use std::io::Read;
 
 /// The text of a context of the declared length, with the bytes that a text gives as hex and zeros after them; a lone `-` gives no bytes.
@@ -26,7 +26,7 @@ pub fn fill_context(alloc: Global, text: &str, declared: u32) -> Result<Option<S
 }
 
 /// The same with the bytes of an input. Where no length is declared, it is the text of all bytes: of one more than a context may have, if the
-/// input is longer, so that a command refuses it.
+/// input is longer, so that a command refuses it. At most one byte more is read than a context may have, or than are declared.
 ///
 /// # Errors
 /// `Input` where a read failed, and `NoMemory` where an allocation failed.
@@ -36,14 +36,12 @@ pub fn read_context<R: Read>(
     declared: Option<u32>,
 ) -> Result<Option<String>, EngineFault>
     ensures read { IfOk result (λ text. IfSome (R.remaining reader.old) (λ input. option_map string_bytes text ≡ text_of_input input declared)) }
+    ensures consumed { IfOk result (λ _. IfSome (R.remaining reader.old) (λ input. R.remaining reader.new ≡ Some (drop (most_read declared) input))) }
     ensures err { IfErr result (λ e. e ≢ Output) }
 {
-    let most = u64::from(declared.unwrap_or(MAX_CONTEXT));
-    let mut given = Vec::new(alloc);
-    match reader.take(most + 1).read_to_end(&mut given) {
-        Ok(_) => Ok(context_text(alloc, given, declared)?),
-        Err(error) => Err(fault_of(&error)),
-    }
+    let most = declared.unwrap_or(MAX_CONTEXT) as usize;
+    let given = read_at_most(alloc, reader, most + 1)?;
+    Ok(context_text(alloc, given, declared)?)
 }
 
 // The text of the context that has these bytes and, where a length is declared, zeros after them. `None` where more are given than are
@@ -74,15 +72,4 @@ fn hex_text(alloc: Global, bytes: &[u8]) -> Result<String, AllocError>
     ensures read { IfOk result (λ text. hex_or_dash (string_bytes text) ≡ Some bytes.now) }
 {
     hex::encode(alloc, bytes)
-}
-
-// Why an input isn't read.
-fn fault_of(error: &io::Error) -> EngineFault
-    ensures { result ≢ Output }
-{
-    if error.kind() == io::ErrorKind::OutOfMemory {
-        EngineFault::NoMemory
-    } else {
-        EngineFault::Input
-    }
 }

@@ -4,3 +4,4 @@ pub mod InRange
 pub mod Holding
 pub mod Unloading
 pub mod Viewing
+pub mod Giving

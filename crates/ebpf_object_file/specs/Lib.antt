@@ -13,6 +13,7 @@ pub mod Source
 pub mod Outside
 pub mod Function
 pub mod Coded
+pub mod Entries
 pub mod Meant
 pub mod Data
 pub mod DataFunction

@@ -9,7 +9,7 @@
 //!
 //! To be read in this order: `fault`, `field`, `header`, `section`, `text`, `symbol`, `relocation`, `call`, `functions`, `symbol_name`,
 //! `outside`, `object_fault`, `function`, `coded`, `lines`, `shown`, `slot_lines`, `source`, `holding_line`, `meant`, `marks`, `data_use`,
-//! `data_function`, `data_parts`, `data_names`.
+//! `data_function`, `data_parts`, `data_names`, `entry`.
 #![tactic(auto)]
 
 mod call;
@@ -18,6 +18,7 @@ pub mod data_function;
 pub mod data_names;
 pub mod data_parts;
 pub mod data_use;
+pub mod entry;
 pub mod fault;
 mod field;
 pub mod function;

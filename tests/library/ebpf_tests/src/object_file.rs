@@ -223,6 +223,17 @@ fn the_functions_are_listed_in_the_order_of_the_table(rt: HostRuntime) {
     holds(&rt, "far is the last", functions.next(5).is_none());
 }
 
+#[test]
+fn an_entry_has_a_name_a_section_and_slots(rt: HostRuntime) {
+    let file = object(&rt, rt.alloc(), "section");
+    let functions = functions_of(&file).ok().expect(&rt, "it is refused");
+    holds(&rt, "symbols", functions.symbol_count() == 8);
+    holds(&rt, "data", functions.entry(5).is_none());
+    let third = functions.entry(7).expect(&rt, "it is none");
+    holds(&rt, "third", third.name.bytes == b"third".as_slice() && third.section.bytes == b"prog/b".as_slice());
+    holds(&rt, "its slots", third.slots == 5);
+}
+
 fn has_its_line(rt: &impl Abort, alloc: Global, row: &str) {
     let (name, columns) = column(rt, row);
     let (wanted, columns) = column(rt, columns);

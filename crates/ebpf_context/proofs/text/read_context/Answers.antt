@@ -1,11 +1,11 @@
-use Rattle.std.proofs.Common.{refl, ◌≡◌, ◌+◌, unwrap_or}
-use Rattle.ebpf_verify.specs.declared.decl.TheConstants.{MAX_CONTEXT}
-use Rattle.ebpf_context.proofs.ReadWhole.{read_whole}
+use Rattle.std.proofs.Common.{◌+◌, ℕ, ap}
+use Rattle.ebpf_context.proofs.ReadWhole.{read_whole, read_rest}
 use Rattle.ebpf_context.proofs.text.read_context.Goals as goal
 
-pub returns-in_ok-context_text-in-Ok-clause-read : goal.returns-in_ok-context_text-in-Ok-clause-read
-returns-in_ok-context_text-in-Ok-clause-read g c =
-    let limit : c.take.result.limit ≡ unwrap_or c.args.declared MAX_CONTEXT + 1 =
-    rw (c.take.ensures.limit, c.from-most.ensures, c.unwrap_or.ensures) refl in
-    let read = rw (c.take.ensures.inner, c.new-given.ensures.items) at c.in-Ok.ensures.bytes in
-    read_whole _ _ _ _ _ limit read c.in_ok-context_text-in-Ok.ensures.text
+pub returns-clause-read : goal.returns-clause-read
+returns-clause-read g c =
+    read_whole _ _ _ _ _ (ap (λ (n : ℕ). n + 1) c.unwrap_or-most.ensures) c.in_ok-given.ensures.read c.in_ok-context_text.ensures.text
+
+pub returns-clause-consumed : goal.returns-clause-consumed
+returns-clause-consumed g c =
+    read_rest _ _ _ _ c.args.declared (ap (λ (n : ℕ). n + 1) c.unwrap_or-most.ensures) c.in_ok-given.ensures.read c.in_ok-given.ensures.consumed

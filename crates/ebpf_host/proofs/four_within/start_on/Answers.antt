@@ -73,7 +73,7 @@ returns-clause-refused g c =
     let only = λ (k : ℕ) (there : List ℕ) (is : there ≡ context_at p k all) (enough : (k + 1) * given_bytes p ≤ length all) (fault : StartFault).
     only_memory_on p all k fault enough is c.deref.ensures.value in
     of_error {Q = λ (fault : StartFault). fault ≡ NoMemory} _ (λ fault. either
-    (only n _ c.context_at.ensures (are_there _ (n + 4) _ _ (omega arith) c.requires.contexts) fault)
-    (either (only (n + 1) _ c.context_at-2.ensures (are_there _ (n + 4) _ _ (omega arith) c.requires.contexts) fault)
+    (either (only n _ c.context_at.ensures (are_there _ (n + 4) _ _ (omega arith) c.requires.contexts) fault)
+    (only (n + 1) _ c.context_at-2.ensures (are_there _ (n + 4) _ _ (omega arith) c.requires.contexts) fault))
     (either (only (n + 2) _ c.context_at-3.ensures (are_there _ (n + 4) _ _ (omega arith) c.requires.contexts) fault)
-    (only (n + 3) _ c.context_at-4.ensures (are_there _ (n + 4) _ _ (omega arith) c.requires.contexts) fault)))) c.start_four.ensures.refused
+    (only (n + 3) _ c.context_at-4.ensures (are_there _ (n + 4) _ _ (omega arith) c.requires.contexts) fault))) c.start_four.ensures.refused
