@@ -95,7 +95,7 @@ func put(worker *Worker) error {
 func TestBatchWithoutMemory(t *testing.T) {
 	runtime.LockOSThread()
 	defer runtime.UnlockOSThread()
-	program := loaded(t, "b700000000000000"+strings.Repeat("0700000001000000", 1100)+"9500000000000000", 0, 0)
+	program := loaded(t, "b700000000000000"+strings.Repeat("0700000001000000", 2200)+"9500000000000000", 0, 0)
 	seen := map[int]bool{}
 	for allocations := 0; !seen[5]; allocations++ {
 		machine, reports := must(NewMachine(1))(t), make([]Report, 5)
@@ -104,7 +104,7 @@ func TestBatchWithoutMemory(t *testing.T) {
 		seen[done] = true
 		rest := must(machine.RunBatch(program, nil, NoLimit, reports[done:]))(t)
 		is(t, done+rest, 5)
-		is(t, reports[4].Exit, 1100)
+		is(t, reports[4].Exit, 2200)
 	}
 	is(t, len(seen) == 3 && seen[0] && seen[4], true)
 }

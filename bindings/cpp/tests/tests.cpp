@@ -431,7 +431,7 @@ bool served(long allocations, const std::vector<std::uint8_t> &slots) {
 // A program of so many instructions that runs of a batch go on four together, in memory of their own.
 Program load_long() {
     std::string digits = "b700000000000000"; // r0 = 0
-    for (int i = 0; i < 1100; i++) digits += "0700000001000000"; // r0 += 1
+    for (int i = 0; i < 2200; i++) digits += "0700000001000000"; // r0 += 1
     return load(digits + "9500000000000000");
 }
 
@@ -453,7 +453,7 @@ std::size_t batch_served(long allocations, const Program &program) {
     left = -1;
     for (std::size_t i = 0; i < runs; i++) assert(reports[i].exited == (i < done));
     machine.run_batch(program, {}, std::span(reports).subspan(done));
-    assert(reports[runs - 1].exit == 1100);
+    assert(reports[runs - 1].exit == 2200);
     return refused ? done : 9;
 }
 

@@ -87,7 +87,7 @@ fn served(allocations: i64, slots: &[u8]) -> bool {
 
 /// A program of so many instructions that runs of a batch go on four together, in memory of their own.
 fn load_long() -> Program {
-    let digits = ["b700000000000000", &"0700000001000000".repeat(1100), "9500000000000000"].concat();
+    let digits = ["b700000000000000", &"0700000001000000".repeat(2200), "9500000000000000"].concat();
     loaded(&digits, 0, 0)
 }
 
@@ -111,7 +111,7 @@ fn batch_served(allocations: i64, program: &Program) -> (usize, bool) {
     );
     assert!(reports.iter().enumerate().all(|(i, report)| report.exited == (i < done)));
     machine.run_batch(program, &[], NO_LIMIT, &mut reports[done..]).unwrap();
-    assert_eq!(reports[RUNS - 1].returned(), Some(1100));
+    assert_eq!(reports[RUNS - 1].returned(), Some(2200));
     (done, refused)
 }
 
